@@ -1,0 +1,4 @@
+pub mod Semilattice
+pub mod Held
+pub mod Bits
+pub mod Coefficients

@@ -1,0 +1,6 @@
+use borrow.Author.Needs.{needs}
+use Rattle.algebra.proofs.Held.{same-amount}
+use Rattle.algebra.proofs.worst.WorstAlgebra.weigh.Needs as need
+
+pub returns : need.returns
+returns c = same-amount (search needs)

@@ -1,0 +1,4 @@
+pub mod Model
+pub mod Held
+pub mod Models
+pub mod Coefficients

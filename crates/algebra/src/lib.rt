@@ -1,0 +1,8 @@
+// Labels, the algebras that weigh them, and coefficients: what every row of tick costs is made of.
+pub mod algebra;
+pub mod best;
+pub mod coefficient;
+pub mod label;
+pub mod pair;
+pub mod ports;
+pub mod worst;
