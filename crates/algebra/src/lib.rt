@@ -1,5 +1,6 @@
 // Labels, the algebras that weigh them, and coefficients: what every row of tick costs is made of.
 pub mod algebra;
+pub mod arc;
 pub mod best;
 pub mod coefficient;
 pub mod label;
