@@ -1,0 +1,5 @@
+pub mod PhaseLaws
+pub mod Cells
+pub mod Walks
+pub mod SetLaws
+pub mod TableLaws

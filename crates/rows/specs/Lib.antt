@@ -1,0 +1,4 @@
+pub mod Phases
+pub mod Sets
+pub mod Pieces
+pub mod Rules
