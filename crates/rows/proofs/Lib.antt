@@ -3,3 +3,5 @@ pub mod Cells
 pub mod Walks
 pub mod SetLaws
 pub mod TableLaws
+pub mod Periods
+pub mod Ranges

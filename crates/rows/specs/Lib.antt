@@ -2,3 +2,5 @@ pub mod Phases
 pub mod Sets
 pub mod Pieces
 pub mod Rules
+pub mod Repeats
+pub mod Search

@@ -2,6 +2,7 @@
 pub mod abort;
 pub mod choice;
 pub mod fork;
+pub mod least;
 pub mod phases;
 pub mod piece;
 pub mod reading;
