@@ -5,3 +5,4 @@ pub mod SetLaws
 pub mod TableLaws
 pub mod Periods
 pub mod Ranges
+pub mod Walking

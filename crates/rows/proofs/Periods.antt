@@ -7,18 +7,28 @@ use native.Mathlib.Omega.{arith}
 use lib.Dec.{ltb}
 use Rattle.std.proofs.shelf.Tests.{cases-lt, cond-true, cond-false, lt-ltb, le-ltb}
 use Rattle.rows.specs.Phases.{phase}
-use Rattle.rows.specs.Repeats.{iterated, Repeats, LeastShape}
+use Rattle.algebra.specs.Model.{Model}
+use Rattle.rows.specs.Repeats.{Repeats, LeastShape}
+use Rattle.rows.specs.Rules.Rule.{Rule, at, rows}
 use Rattle.rows.specs.Search.{folded, RoundHas, LeastPeriod, LeastTransient}
 use Rattle.rows.proofs.PhaseLaws.{phase-early, phase-late}
 
 -- a situation that equals an earlier one: from there on situations come again
-pub comes-again : {S : Type 0} (start : S) (follow : S → S) (i n : ℕ) → iterated start follow i ≡ iterated start follow n → (k : ℕ) → iterated start follow (i + k) ≡ iterated start follow (n + k)
-comes-again start follow i n e zero =
-    ap (iterated start follow) (add-zero i) ∙ e ∙ sym (ap (iterated start follow) (add-zero n))
-comes-again start follow i n e (suc k) =
-    ap (iterated start follow) {y = suc (i + k)} (omega arith)
-    ∙ ap follow (comes-again start follow i n e k)
-    ∙ ap (iterated start follow) {x = suc (n + k)} (omega arith)
+comes-again : {m : Model} (rule : Rule m) (i n : ℕ) → at rule i ≡ at rule n → (k : ℕ) → at rule (i + k) ≡ at rule (n + k)
+comes-again rule i n e zero =
+    ap (at rule) (add-zero i) ∙ e ∙ sym (ap (at rule) (add-zero n))
+comes-again rule i n e (suc k) =
+    ap (at rule) {y = suc (i + k)} (omega arith)
+    ∙ ap (rule .next) (comes-again rule i n e k)
+    ∙ ap (at rule) {x = suc (n + k)} (omega arith)
+
+-- and both rows repeat, with the distance as a period
+pub repeating : {m : Model} (rule : Rule m) (i n : ℕ) → i < n → at rule i ≡ at rule n → Repeats (rows rule) i (n - i)
+repeating rule i n some e k h =
+    ap (λ s. (rule .pause s, rule .exit s))
+    (ap (at rule) {y = n + (k - i)} (omega arith)
+    ∙ sym (comes-again rule i n e (k - i))
+    ∙ ap (at rule) {x = i + (k - i)} (omega arith))
 
 -- a whole round on, taken back, is the same tick
 pub whole-round : (i n k : ℕ) → i ≤ k → i ≤ n → folded i n (k + (n - i)) ≡ k

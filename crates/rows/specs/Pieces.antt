@@ -1,16 +1,18 @@
 -- The rows of a piece, and where a shelf keeps them.
+use mathlib.Core.Bool.{_&&_}
 use mathlib.Core.List.{List, map}
 use Prim.Native.Nat.{ℕ, _+_, _*_}
 use lib.ListN.{getD}
 use Rattle.std.specs.declared.option.Option.{Option}
 use Rattle.std.specs.declared.option.Option.the-variants.{None}
-use Rattle.std.specs.Options.{mapped}
+use Rattle.std.specs.Options.{mapped, isSome}
 use Rattle.algebra.specs.Model.{Model}
 use Rattle.algebra.specs.Coefficients.{Coef}
 use Rattle.rows.specs.declared.piece.Piece.{Piece}
 use Rattle.rows.specs.declared.piece.Row.{Row}
 use Rattle.rows.specs.declared.piece.Row.the-variants.{Pause, Exit}
 use Rattle.rows.specs.Phases.{phase, after}
+use Rattle.rows.specs.Sets.{has, image}
 
 -- two rows that repeat from the transient on with the period: the coefficients of pause, p, and of exit, e, at each phase
 pub record Rows (m : Model) : Type 0 where
@@ -31,6 +33,10 @@ size a = a .transient + a .period
 -- the phase after k
 abbrev pub next-phase : {m : Model} → Rows m → ℕ → ℕ
 next-phase a = after (a .transient) (a .period)
+
+-- the phase after each member of a set with p present
+abbrev pub moved : {m : Model} → Rows m → (set : ℕ) → ℕ
+moved a set = image (λ k. has set k && isSome (a .p k)) (next-phase a) (size a)
 
 -- the pause coefficient at tick n
 abbrev pub pause-at : {m : Model} → Rows m → ℕ → Coef m

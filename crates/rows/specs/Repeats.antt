@@ -1,11 +1,6 @@
 -- Situations that come again, and rows that repeat.
 use mathlib.Core.Path.{_≡_}
-use Prim.Native.Nat.{ℕ, zero, suc, _+_, _≤_, _<_}
-
--- what follows the start n times
-abbrev pub iterated : {S : Type 0} → S → (S → S) → ℕ → S
-iterated start follow zero = start
-iterated start follow (suc n) = follow (iterated start follow n)
+use Prim.Native.Nat.{ℕ, _+_, _≤_, _<_}
 
 -- none of the situations 0 to n - 1 equals an earlier one
 abbrev pub NoRepeat : {S : Type 0} → (ℕ → S) → ℕ → Type 0

@@ -1,5 +1,5 @@
--- The six working rules: each carries a situation from tick to tick, and gives pause and exit at it.
-pub mod Situations
+-- The six working rules, each as it is worked: ⊕ is join, ⊙ is add, on coefficients.
+pub mod Rule
 pub mod Table
 pub mod Choice
 pub mod Sequence

@@ -1,7 +1,7 @@
 // Abort, H over A: both phases, and whether A was paused at the tick before.
 ghost use Prim.Native.Nat.{_+_, _<_};
 ghost use Rattle.rows.specs.Pieces.{rows-of};
-ghost use Rattle.rows.specs.Rules.Abort.{abort-starts, abort-pauses, abort-exits, abort-follows};
+ghost use Rattle.rows.specs.Rules.Abort.{abort as the-abort};
 use crate::piece::Piece;
 use crate::piece::Row;
 use crate::rule::RowRule;
@@ -20,15 +20,9 @@ pub struct Abort {
 pub impl RowRule for Abort as AbortRule {
     ghost fits = { λ r s. (s .a < r .h .shape .transient + r .h .shape .period) × (s .b < r .a .shape .transient + r .a .shape .period) };
 
-    ghost starts = { λ r. abort-starts };
+    ghost works = { λ r m cells. the-abort m (rows-of m cells (r .h)) (rows-of m cells (r .a)) };
 
-    ghost pauses = { λ r m cells. abort-pauses m (rows-of m cells (r .h)) (rows-of m cells (r .a)) };
-
-    ghost exits = { λ r m cells. abort-exits m (rows-of m cells (r .h)) (rows-of m cells (r .a)) };
-
-    ghost follows = { λ r m cells. abort-follows m (rows-of m cells (r .h)) (rows-of m cells (r .a)) };
-
-    fn first(&self) -> Situation {
+    fn first<V: Algebra>(&self, cells: &[Option<V>]) -> Situation {
         Situation {
             a: 0,
             b: 0,

@@ -1,7 +1,7 @@
 // Choice of A and B: both phases, joined tick by tick.
 ghost use Prim.Native.Nat.{_+_, _<_};
 ghost use Rattle.rows.specs.Pieces.{rows-of};
-ghost use Rattle.rows.specs.Rules.Choice.{choice-starts, choice-pauses, choice-exits, choice-follows};
+ghost use Rattle.rows.specs.Rules.Choice.{choice as the-choice};
 use crate::piece::Piece;
 use crate::piece::Row;
 use crate::rule::RowRule;
@@ -18,15 +18,9 @@ pub struct Choice {
 pub impl RowRule for Choice as ChoiceRule {
     ghost fits = { λ r s. (s .a < r .a .shape .transient + r .a .shape .period) × (s .b < r .b .shape .transient + r .b .shape .period) };
 
-    ghost starts = { λ r. choice-starts };
+    ghost works = { λ r m cells. the-choice m (rows-of m cells (r .a)) (rows-of m cells (r .b)) };
 
-    ghost pauses = { λ r m cells. choice-pauses m (rows-of m cells (r .a)) (rows-of m cells (r .b)) };
-
-    ghost exits = { λ r m cells. choice-exits m (rows-of m cells (r .a)) (rows-of m cells (r .b)) };
-
-    ghost follows = { λ r m cells. choice-follows m (rows-of m cells (r .a)) (rows-of m cells (r .b)) };
-
-    fn first(&self) -> Situation {
+    fn first<V: Algebra>(&self, cells: &[Option<V>]) -> Situation {
         Situation {
             a: 0,
             b: 0,

@@ -1,7 +1,7 @@
 // Fork of A and B: both phases, and for each side whether it may have left earlier.
 ghost use Prim.Native.Nat.{_+_, _<_};
 ghost use Rattle.rows.specs.Pieces.{rows-of};
-ghost use Rattle.rows.specs.Rules.Fork.{fork-starts, fork-pauses, fork-exits, fork-follows};
+ghost use Rattle.rows.specs.Rules.Fork.{fork as the-fork};
 use crate::piece::Piece;
 use crate::piece::Row;
 use crate::rule::RowRule;
@@ -20,15 +20,9 @@ pub struct Fork {
 pub impl RowRule for Fork as ForkRule {
     ghost fits = { λ r s. (s .a < r .a .shape .transient + r .a .shape .period) × (s .b < r .b .shape .transient + r .b .shape .period) };
 
-    ghost starts = { λ r. fork-starts };
+    ghost works = { λ r m cells. the-fork m (rows-of m cells (r .a)) (rows-of m cells (r .b)) };
 
-    ghost pauses = { λ r m cells. fork-pauses m (rows-of m cells (r .a)) (rows-of m cells (r .b)) };
-
-    ghost exits = { λ r m cells. fork-exits m (rows-of m cells (r .a)) (rows-of m cells (r .b)) };
-
-    ghost follows = { λ r m cells. fork-follows m (rows-of m cells (r .a)) (rows-of m cells (r .b)) };
-
-    fn first(&self) -> Situation {
+    fn first<V: Algebra>(&self, cells: &[Option<V>]) -> Situation {
         Situation {
             a: 0,
             b: 0,

@@ -13,3 +13,4 @@ pub mod sets;
 pub mod shape;
 pub mod situation;
 pub mod table;
+pub mod walk;

@@ -1,11 +1,10 @@
 // Reading a piece's coefficients from the cells, and joining or moving a set of its phases.
-ghost use mathlib.Core.Bool.{_&&_};
 ghost use mathlib.Core.Path.{_≡_};
 ghost use Prim.Native.Nat.{_+_, _≤_, _<_};
 ghost use lib.ListN.{length};
-ghost use Rattle.std.specs.Options.{mapped, isSome};
-ghost use Rattle.rows.specs.Pieces.{rows-of, meanings, row as row-of, size, next-phase};
-ghost use Rattle.rows.specs.Sets.{has as has-member, joins, image};
+ghost use Rattle.std.specs.Options.{mapped};
+ghost use Rattle.rows.specs.Pieces.{rows-of, meanings, row as row-of, size, moved as phases-after};
+ghost use Rattle.rows.specs.Sets.{has as has-member, joins};
 use crate::piece::Piece;
 use crate::piece::Row;
 use crate::sets::has;
@@ -43,7 +42,7 @@ impl Piece {
     // The phase after each member of a set at which pause is present.
     pub fn moved<V: Algebra>(&self, cells: &[Option<V>], set: u64) -> u64
         requires { ⌜ 2048 ≤ length (now cells) ⌝ }
-        ensures { λ r. ⌜ r ≡ image (λ k. has-member set k && isSome (rows-of model (meanings means (now (cells .entry))) (now (self .entry)) .p k)) (next-phase (rows-of model (meanings means (now (cells .entry))) (now (self .entry)))) (size (rows-of model (meanings means (now (cells .entry))) (now (self .entry)))) ⌝ }
+        ensures { λ r. ⌜ r ≡ phases-after (rows-of model (meanings means (now (cells .entry))) (now (self .entry))) set ⌝ }
     {
         let mut after = 0;
         for k in 0..self.shape.size() {

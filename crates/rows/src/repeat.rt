@@ -4,7 +4,7 @@ ghost use Prim.Native.Nat.{_≤_};
 ghost use lib.ListN.{length};
 ghost use Rattle.std.specs.Options.{mapped};
 ghost use Rattle.rows.specs.Pieces.{rows-of, meanings};
-ghost use Rattle.rows.specs.Rules.Loop.{loop-starts, starts-again, loop-pauses, loop-exits, loop-follows};
+ghost use Rattle.rows.specs.Rules.Loop.{loop as the-loop, starts};
 use crate::piece::Piece;
 use crate::piece::Row;
 use crate::rule::RowRule;
@@ -23,7 +23,7 @@ impl Repeat {
     // The weight with which A starts at this tick: the unit at tick 0, later what its runs leave with.
     fn again<V: Algebra>(&self, cells: &[Option<V>], s: Situation) -> Option<V>
         requires { ⌜ 2048 ≤ length (now cells) ⌝ }
-        ensures { λ r. ⌜ mapped means r ≡ starts-again model (rows-of model (meanings means (now (cells .entry))) (now (self .entry) .a)) s ⌝ }
+        ensures { λ r. ⌜ mapped means r ≡ starts model (rows-of model (meanings means (now (cells .entry))) (now (self .entry) .a)) (s .wa) (s .set) ⌝ }
     {
         if s.wa {
             Some(V::unit())
@@ -36,15 +36,9 @@ impl Repeat {
 pub impl RowRule for Repeat as RepeatRule {
     ghost fits = { λ r s. Unit {0} };
 
-    ghost starts = { λ r. loop-starts };
+    ghost works = { λ r m cells. the-loop m (rows-of m cells (r .a)) };
 
-    ghost pauses = { λ r m cells. loop-pauses m (rows-of m cells (r .a)) };
-
-    ghost exits = { λ r m cells. loop-exits m (rows-of m cells (r .a)) };
-
-    ghost follows = { λ r m cells. loop-follows m (rows-of m cells (r .a)) };
-
-    fn first(&self) -> Situation {
+    fn first<V: Algebra>(&self, cells: &[Option<V>]) -> Situation {
         Situation {
             a: 0,
             b: 0,

@@ -1,7 +1,7 @@
 // Sequence of A and B: A's phase and the set of phases that B may be in.
 ghost use Prim.Native.Nat.{_+_, _<_};
 ghost use Rattle.rows.specs.Pieces.{rows-of};
-ghost use Rattle.rows.specs.Rules.Sequence.{sequence-starts, sequence-pauses, sequence-exits, sequence-follows};
+ghost use Rattle.rows.specs.Rules.Sequence.{sequence as the-sequence};
 use crate::piece::Piece;
 use crate::piece::Row;
 use crate::rule::RowRule;
@@ -20,15 +20,9 @@ pub struct Sequence {
 pub impl RowRule for Sequence as SequenceRule {
     ghost fits = { λ r s. s .a < r .a .shape .transient + r .a .shape .period };
 
-    ghost starts = { λ r. sequence-starts };
+    ghost works = { λ r m cells. the-sequence m (rows-of m cells (r .a)) (rows-of m cells (r .b)) };
 
-    ghost pauses = { λ r m cells. sequence-pauses m (rows-of m cells (r .a)) (rows-of m cells (r .b)) };
-
-    ghost exits = { λ r m cells. sequence-exits m (rows-of m cells (r .a)) (rows-of m cells (r .b)) };
-
-    ghost follows = { λ r m cells. sequence-follows m (rows-of m cells (r .a)) (rows-of m cells (r .b)) };
-
-    fn first(&self) -> Situation {
+    fn first<V: Algebra>(&self, cells: &[Option<V>]) -> Situation {
         Situation {
             a: 0,
             b: 0,

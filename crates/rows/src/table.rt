@@ -3,7 +3,7 @@ ghost use mathlib.Core.Bool.{true};
 ghost use mathlib.Core.Path.{_≡_};
 ghost use denote.Ref.{now as held};
 ghost use Rattle.std.specs.Options.{mapped};
-ghost use Rattle.rows.specs.Rules.Table.{current as is-current, weights, reached, table-starts, table-pauses, table-exits, table-follows};
+ghost use Rattle.rows.specs.Rules.Table.{current as is-current, weights, reached, table as the-table};
 use crate::rule::RowRule;
 use crate::sets::has;
 use crate::sets::with;
@@ -57,15 +57,9 @@ fn targets(arcs: &[Arc], set: u64) -> u64
 pub impl RowRule for Table<'_> as TableRule {
     ghost fits = { λ r s. Unit {0} };
 
-    ghost starts = { λ r. table-starts };
+    ghost works = { λ r m cells. the-table m (held (r .arcs)) };
 
-    ghost pauses = { λ r m cells. table-pauses m (held (r .arcs)) };
-
-    ghost exits = { λ r m cells. table-exits m (held (r .arcs)) };
-
-    ghost follows = { λ r m cells. table-follows (held (r .arcs)) };
-
-    fn first(&self) -> Situation {
+    fn first<V: Algebra>(&self, cells: &[Option<V>]) -> Situation {
         Situation {
             a: 0,
             b: 0,

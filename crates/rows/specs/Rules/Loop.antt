@@ -1,31 +1,27 @@
 -- Loop: a set M, first empty, and whether it is tick 0.
-use mathlib.Core.Bool.{true, false, cond, _&&_}
+use mathlib.Core.Bool.{Bool, true, false, cond}
+use Prim.Native.Nat.{ℕ}
 use Rattle.std.specs.declared.option.Option.the-variants.{None, Some}
 use Rattle.std.specs.Options.{isSome}
 use Rattle.algebra.specs.Model.{Model}
 use Rattle.algebra.specs.Coefficients.{Coef, join, add}
-use Rattle.rows.specs.declared.situation.Situation.{Situation}
-use Rattle.rows.specs.Pieces.{Rows, size, next-phase}
-use Rattle.rows.specs.Sets.{has, with-member, image, joins}
-use Rattle.rows.specs.Rules.Situations.{situation}
+use Rattle.rows.specs.Pieces.{Rows, size, next-phase, moved}
+use Rattle.rows.specs.Sets.{has, with-member, joins}
+use Rattle.rows.specs.Rules.Rule.{Rule, situation}
 
-abbrev pub loop-starts : Situation
-loop-starts = situation 0 0 0 true false
+-- S: the unit at tick 0, later the join of A.e over M
+abbrev pub starts : (m : Model) (A : Rows m) → (zeroth : Bool) (set : ℕ) → Coef m
+starts m A zeroth set = cond zeroth (Some (m .unit)) (joins m (has set) (A .e) (size A))
 
-module _ (m : Model) (A : Rows m) where
-  -- S: the unit at tick 0, later the join of A.e over M
-  abbrev pub starts-again : Situation → Coef m
-  starts-again s = cond (s .wa) (Some (m .unit)) (joins m (has (s .set)) (A .e) (size A))
+-- the next M holds the phase after each member with A.p present, and the phase after 0 if S is present
+abbrev pub go-round : (m : Model) (A : Rows m) → (zeroth : Bool) (set : ℕ) → ℕ
+go-round m A zeroth set = cond (isSome (starts m A zeroth set)) (with-member (moved A set) (next-phase A 0)) (moved A set)
 
-  -- (S ⊙ A.p at 0) ⊕ all A.p over M
-  abbrev pub loop-pauses : Situation → Coef m
-  loop-pauses s = join m (add m (starts-again s) (A .p 0)) (joins m (has (s .set)) (A .p) (size A))
-
-  abbrev pub loop-exits : Situation → Coef m
-  loop-exits s = None
-
-  -- the next M: the phase after each member with A.p present, and the phase after 0 if S is present
-  abbrev pub loop-follows : Situation → Situation
-  loop-follows s =
-      let moved = image (λ k. has (s .set) k && isSome (A .p k)) (next-phase A) (size A) in
-      situation 0 0 (cond (isSome (starts-again s)) (with-member moved (next-phase A 0)) moved) false false
+-- pause is (S ⊙ A.p at 0) ⊕ all A.p over M; exit is absent
+abbrev pub loop : (m : Model) (A : Rows m) → Rule m
+loop m A = record {
+  first = situation 0 0 0 true false;
+  pause = λ s. join m (add m (starts m A (s .wa) (s .set)) (A .p 0)) (joins m (has (s .set)) (A .p) (size A));
+  exit = λ s. None;
+  next = λ s. situation 0 0 (go-round m A (s .wa) (s .set)) false false;
+}

@@ -7,9 +7,8 @@ use Rattle.std.specs.declared.option.Option.the-variants.{None, Some}
 use Rattle.algebra.specs.declared.arc.Arc.{Arc}
 use Rattle.algebra.specs.Model.{Model}
 use Rattle.algebra.specs.Coefficients.{Coef, join}
-use Rattle.rows.specs.declared.situation.Situation.{Situation}
 use Rattle.rows.specs.Sets.{has, with-member}
-use Rattle.rows.specs.Rules.Situations.{situation}
+use Rattle.rows.specs.Rules.Rule.{Rule, situation}
 
 -- does the arc lead to a state?
 abbrev pub stays : Arc → Bool
@@ -30,15 +29,11 @@ abbrev pub reached : (set : ℕ) → List Arc → ℕ
 reached set [] = 0
 reached set (arc ∷ arcs) = cond (current set true arc) (with-member (reached set arcs) (arc .to)) (reached set arcs)
 
-abbrev pub table-starts : Situation
-table-starts = situation 0 0 1 false false
-
-module _ (m : Model) (arcs : List Arc) where
-  abbrev pub table-pauses : Situation → Coef m
-  table-pauses s = weights m (s .set) true arcs
-
-  abbrev pub table-exits : Situation → Coef m
-  table-exits s = weights m (s .set) false arcs
-
-abbrev pub table-follows : List Arc → Situation → Situation
-table-follows arcs s = situation 0 0 (reached (s .set) arcs) false false
+-- pause joins the weights of the set's arcs that lead to a state, exit of those that lead out
+abbrev pub table : (m : Model) (arcs : List Arc) → Rule m
+table m arcs = record {
+  first = situation 0 0 1 false false;
+  pause = λ s. weights m (s .set) true arcs;
+  exit = λ s. weights m (s .set) false arcs;
+  next = λ s. situation 0 0 (reached (s .set) arcs) false false;
+}
