@@ -6,3 +6,5 @@ pub mod TableLaws
 pub mod Periods
 pub mod Ranges
 pub mod Walking
+pub mod Parts
+pub mod FillLaws

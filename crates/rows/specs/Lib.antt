@@ -4,3 +4,4 @@ pub mod Pieces
 pub mod Rules
 pub mod Repeats
 pub mod Search
+pub mod Filled

@@ -1,6 +1,7 @@
 // Rows of tick costs: shapes and phases, the six working rules, and their unrolling.
 pub mod abort;
 pub mod choice;
+pub mod fill;
 pub mod fork;
 pub mod least;
 pub mod phases;
