@@ -8,3 +8,4 @@ pub mod Ranges
 pub mod Walking
 pub mod Parts
 pub mod FillLaws
+pub mod Unrolling

@@ -5,3 +5,5 @@ pub mod Rules
 pub mod Repeats
 pub mod Search
 pub mod Filled
+pub mod Unrolled
+pub mod Outcomes

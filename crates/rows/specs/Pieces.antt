@@ -46,15 +46,23 @@ pause-at a n = a .p (phase (a .transient) (a .period) n)
 abbrev pub exit-at : {m : Model} → Rows m → ℕ → Coef m
 exit-at a n = a .e (phase (a .transient) (a .period) n)
 
+-- both rows at tick n: what a shelf gives there
+abbrev pub given-at : {m : Model} → Rows m → ℕ → Coef m × Coef m
+given-at a n = (pause-at a n, exit-at a n)
+
 -- what lent cells mean
 abbrev pub meanings : {V C : Type 0} → (V → C) → List (Option V) → List (Option C)
 meanings means = map (mapped means)
 
--- the rows that a shelf's cells hold: 64 for pause, then 64 for exit
-abbrev pub rows-of : (m : Model) → List (Coef m) → Piece → Rows m
-rows-of m cells a = record {
-  transient = a .shape .transient;
-  period = a .shape .period;
-  p = λ k. getD cells (128 * a .shelf + k) None;
-  e = λ k. getD cells (128 * a .shelf + 64 + k) None;
+-- the rows of a shelf's cells, 64 for pause and then 64 for exit, at a shape
+abbrev pub on-shelf : (m : Model) → List (Coef m) → (shelf transient period : ℕ) → Rows m
+on-shelf m cells shelf transient period = record {
+  transient = transient;
+  period = period;
+  p = λ k. getD cells (128 * shelf + k) None;
+  e = λ k. getD cells (128 * shelf + 64 + k) None;
 }
+
+-- the rows of a piece
+abbrev pub rows-of : (m : Model) → List (Coef m) → Piece → Rows m
+rows-of m cells a = on-shelf m cells (a .shelf) (a .shape .transient) (a .shape .period)
