@@ -1,3 +1,5 @@
 pub mod Kinds
 pub mod Refusals
 pub mod Entries
+pub mod Format
+pub mod Bodies

@@ -1,4 +1,6 @@
 // The program file: records of a build, read and written.
+mod bodies;
+pub mod fault;
 pub mod kind;
 pub mod record;
 pub mod refusal;
