@@ -2,5 +2,6 @@
 mod bodies;
 pub mod fault;
 pub mod kind;
+pub mod read;
 pub mod record;
 pub mod refusal;

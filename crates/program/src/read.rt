@@ -1,0 +1,62 @@
+// Reads one record from the first bytes of a file, or of what is left of one.
+ghost use mathlib.Core.List.{List};
+ghost use mathlib.Core.Path.{_≡_};
+ghost use Prim.Native.Nat.{ℕ};
+ghost use Rattle.std.specs.Results.{Cases};
+ghost use Rattle.program.specs.Bodies.{Misfits};
+ghost use Rattle.program.specs.Entries.{entry};
+ghost use Rattle.program.specs.Format.{kind as kind-of, body as body-of, FitsBody};
+use crate::bodies::shelf;
+use crate::bodies::shelves;
+use crate::bodies::step;
+use crate::bodies::table;
+use crate::fault::Fault;
+use crate::fault::FaultFromRefusal;
+use crate::kind::Kind;
+use crate::record::Record;
+use crate::refusal::Refusal;
+use std::alloc::Global;
+
+// The record of a kind with this body.
+fn record(heap: Global, kind: Kind, body: &[u8]) -> Result<Record, Fault>
+    ensures { λ r. ⌜ Cases r (λ x. (kind-of (entry x) ≡ kind) × FitsBody (entry x) × (now (body .entry) ≡ body-of (entry x))) (λ e. Misfits e kind (now (body .entry))) ⌝ }
+{
+    match kind {
+        Kind::Node => {
+            let (shelf, label) = step(body).ok_or(Refusal::Misfit)?;
+            Ok(Record::Node { shelf, label })
+        }
+        Kind::Pause => {
+            let (shelf, label) = step(body).ok_or(Refusal::Misfit)?;
+            Ok(Record::Pause { shelf, label })
+        }
+        Kind::Table => {
+            let (shelf, arcs) = table(heap, body)?;
+            Ok(Record::Table { shelf, arcs })
+        }
+        Kind::Choice => {
+            let (first, second) = shelves(body).ok_or(Refusal::Misfit)?;
+            Ok(Record::Choice { first, second })
+        }
+        Kind::Sequence => {
+            let (first, second) = shelves(body).ok_or(Refusal::Misfit)?;
+            Ok(Record::Sequence { first, second })
+        }
+        Kind::Loop => {
+            let shelf = shelf(body).ok_or(Refusal::Misfit)?;
+            Ok(Record::Loop { shelf })
+        }
+        Kind::Fork => {
+            let (first, second) = shelves(body).ok_or(Refusal::Misfit)?;
+            Ok(Record::Fork { first, second })
+        }
+        Kind::Abort => {
+            let (first, second) = shelves(body).ok_or(Refusal::Misfit)?;
+            Ok(Record::Abort { first, second })
+        }
+        Kind::Clear => {
+            let shelf = shelf(body).ok_or(Refusal::Misfit)?;
+            Ok(Record::Clear { shelf })
+        }
+    }
+}
