@@ -7,6 +7,8 @@ use Rattle.std.specs.Joined.{joined}
 use Rattle.std.specs.Vec.{Every}
 use Rattle.algebra.specs.declared.arc.Arc.{Arc}
 use Rattle.algebra.specs.declared.label.Label.{Label}
+use Rattle.program.specs.declared.fault.Fault.{Fault}
+use Rattle.program.specs.declared.fault.Fault.the-variants.{Refused, Memory}
 use Rattle.program.specs.declared.kind.Kind as kinds
 use Rattle.program.specs.declared.kind.Kind.{Kind}
 use Rattle.program.specs.declared.refusal.Refusal.{Refusal}
@@ -117,3 +119,8 @@ Refuses Large bs = ⊥
 Refuses Cut bs = Framed bs → ⊥
 Refuses Unknown bs = Framed bs × ((k : Kind) → kind-in bs ≡ number k → ⊥)
 Refuses Misfit bs = Framed bs × ((k : Kind) × (kind-in bs ≡ number k) × (length-in bs ≡ due k (count-in bs) → ⊥))
+
+-- why no record is read from these bytes: they are refused, or there is no memory for it
+abbrev pub Stops : Fault → List ℕ → Type 0
+Stops (Refused why) bs = Refuses why bs
+Stops Memory bs = Unit {0}

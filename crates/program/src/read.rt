@@ -5,7 +5,7 @@ ghost use Prim.Native.Nat.{ℕ};
 ghost use Rattle.std.specs.Results.{Cases};
 ghost use Rattle.program.specs.Bodies.{Misfits};
 ghost use Rattle.program.specs.Entries.{entry};
-ghost use Rattle.program.specs.Format.{kind as kind-of, body as body-of, FitsBody};
+ghost use Rattle.program.specs.Format.{kind as kind-of, body as body-of, FitsBody, Spells, Stops};
 use crate::bodies::shelf;
 use crate::bodies::shelves;
 use crate::bodies::step;
@@ -59,4 +59,21 @@ fn record(heap: Global, kind: Kind, body: &[u8]) -> Result<Record, Fault>
             Ok(Record::Clear { shelf })
         }
     }
+}
+
+// The record in the first bytes, with the bytes after it; or the first question of a record that the bytes answer no.
+pub fn read(heap: Global, bytes: &[u8]) -> Result<(Record, &[u8]), Fault>
+    ensures { λ r. ⌜ Cases r (λ x. Spells (now (bytes .entry)) (entry (x .0)) (now (x .1))) (λ e. Stops e (now (bytes .entry))) ⌝ }
+{
+    let [l0, l1, k0, k1, rest @ ..] = bytes else {
+        return Err(Fault::Refused(Refusal::Cut));
+    };
+    let length = usize::from(u16::from_le_bytes([*l0, *l1]));
+    if length < 4 || rest.len() < length - 4 {
+        return Err(Fault::Refused(Refusal::Cut));
+    }
+    let (body, rest) = rest.split_at(length - 4);
+    let kind = Kind::of(u16::from_le_bytes([*k0, *k1])).ok_or(Refusal::Unknown)?;
+    let record = record(heap, kind, body)?;
+    Ok((record, rest))
 }
