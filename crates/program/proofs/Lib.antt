@@ -1,3 +1,4 @@
 pub mod Numbers
 pub mod Arcs
 pub mod Framing
+pub mod Turns

@@ -3,3 +3,4 @@ pub mod Refusals
 pub mod Entries
 pub mod Format
 pub mod Bodies
+pub mod Files

@@ -1,6 +1,7 @@
 // The program file: records of a build, read and written.
 mod bodies;
 pub mod fault;
+pub mod file;
 pub mod kind;
 pub mod read;
 pub mod record;
