@@ -40,11 +40,11 @@ module _ {all bs rest : List ℕ} (parts : Parted all bs rest) where
       let size = sym (length-drop 4 all) ∙ ap length (parts .split) ∙ length-append bs rest in
       (parts .room, omega (arith, parts .long-is), omega (arith, parts .long-is))
 
-  pub spelled : ((i : ℕ) → getD all i 0 < 256) → (e : Entry) → kind-in all ≡ number (kind e) → FitsBody e → bs ≡ body e → Spells all e rest
-  spelled byte e known fits is =
+  pub spelled : ((i : ℕ) → getD all i 0 < 256) → (e : Entry) (k : Kind) → kind-in all ≡ number k → kind e ≡ k → FitsBody e → bs ≡ body e → Spells all e rest
+  spelled byte e k known same fits is =
       let due-is : length-in all ≡ long e = parts .long-is ∙ ap (λ (l : List ℕ). 4 + length l) is ∙ length-body e in
       let first = ap two (sym due-is) ∙ two-spelled _ _ (byte 0) (byte 1) in
-      let second = ap two (sym known) ∙ two-spelled _ _ (byte 2) (byte 3) in
+      let second = ap two (ap number same ∙ sym known) ∙ two-spelled _ _ (byte 2) (byte 3) in
       let tail = parts .split ∙ ap (λ (l : List ℕ). l ++ rest) is in
       ((omega (arith, due-is, byte 0, byte 1), fits), begins 4 all (parts .room) ∙ sym (λ i. first i ++ (second i ++ sym tail i)))
 

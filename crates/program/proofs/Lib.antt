@@ -2,3 +2,4 @@ pub mod Numbers
 pub mod Arcs
 pub mod Framing
 pub mod Turns
+pub mod Appends

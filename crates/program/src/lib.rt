@@ -6,3 +6,4 @@ pub mod kind;
 pub mod read;
 pub mod record;
 pub mod refusal;
+pub mod write;

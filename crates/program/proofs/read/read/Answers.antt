@@ -7,10 +7,8 @@ use borrow.Author.Tests.{ltb-false}
 use lib.ListN.{length, getD}
 use Rattle.std.proofs.shelf.Lists.{take-rest}
 use Rattle.std.proofs.shelf.Results.{err-from-errBy, cases-at-some}
-use Rattle.program.specs.declared.kind.Kind.{Kind}
 use Rattle.program.specs.Kinds.{number}
-use Rattle.program.specs.Entries.{entry}
-use Rattle.program.specs.Format.{kind, kind-in}
+use Rattle.program.specs.Format.{kind-in}
 use Rattle.program.proofs.Framing.{Parted, spelled, stops}
 use Rattle.program.proofs.read.read.Needs as need
 use Rattle.program.proofs.read.read.Needs.{In-Continue-kind}
@@ -37,6 +35,4 @@ pub returns : need.returns
 returns c =
     let at = need.at·returns c .In-Continue-kind in
     let is = c .in-Continue-record .ensures tt in
-    let k : Kind = c .in-Continue-kind .kind in
-    let same : k ≡ kind (entry (c .in-Continue-record .record)) = sym (is .0) in
-    spelled (parts at) (λ i. omega (arith, c .typed .bytes i)) _ (known at ∙ ap number same) (is .1) (is .2)
+    spelled (parts at) (λ i. omega (arith, c .typed .bytes i)) _ _ (known at) (is .0) (is .1) (is .2)
