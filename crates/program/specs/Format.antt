@@ -13,6 +13,8 @@ use Rattle.program.specs.declared.kind.Kind as kinds
 use Rattle.program.specs.declared.kind.Kind.{Kind}
 use Rattle.program.specs.declared.refusal.Refusal.{Refusal}
 use Rattle.program.specs.declared.refusal.Refusal.the-variants.{Large, Cut, Unknown, Misfit}
+use Rattle.program.specs.declared.unwritten.Unwritten.{Unwritten}
+use Rattle.program.specs.declared.unwritten.Unwritten.the-variants as unwritten
 use Rattle.program.specs.Kinds.{number, due}
 use Rattle.program.specs.Entries.{Entry, node, pause, table, choice, sequence, repeat, fork, abort, clear}
 
@@ -124,3 +126,8 @@ Refuses Misfit bs = Framed bs × ((k : Kind) × (kind-in bs ≡ number k) × (le
 abbrev pub Stops : Fault → List ℕ → Type 0
 Stops (Refused why) bs = Refuses why bs
 Stops Memory bs = Unit {0}
+
+-- why an entry is not written: two bytes do not hold its length, or there is no memory for its bytes
+abbrev pub Resists : Unwritten → Entry → Type 0
+Resists unwritten.Long e = 65536 ≤ long e
+Resists unwritten.Memory e = Unit {0}

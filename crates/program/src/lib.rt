@@ -6,4 +6,5 @@ pub mod kind;
 pub mod read;
 pub mod record;
 pub mod refusal;
+pub mod unwritten;
 pub mod write;

@@ -5,13 +5,17 @@ ghost use Prim.Native.Nat.{_<_};
 ghost use lib.ListN.{length};
 ghost use Rattle.std.specs.Joined.{joined};
 ghost use Rattle.std.specs.Of.Vec.{vec-items};
+ghost use Rattle.std.specs.Results.{Cases};
 ghost use Rattle.std.specs.Vec.{made, Every};
 ghost use Rattle.program.specs.Entries.{entry};
-ghost use Rattle.program.specs.Format.{two, label-bytes, arc-bytes, FitsLabel, FitsArc, FitsBody, long, body as body-of};
+ghost use Rattle.program.specs.Format.{two, label-bytes, arc-bytes, FitsLabel, FitsArc, FitsBody, Fits, Resists, long, body as body-of, bytes};
 use crate::record::Record;
+use crate::unwritten::Unwritten;
+use crate::unwritten::UnwrittenFromAlloc;
 use algebra::arc::Arc;
 use algebra::label::Label;
 use std::alloc::AllocError;
+use std::alloc::Global;
 
 fn put_label(out: &mut Vec<u8>, label: Label) -> Result<(), AllocError>
     ensures { λ r. ⌜ made r (λ _. FitsLabel label × (vec-items (now (out .exit)) ≡ vec-items (now (out .entry)) ++ label-bytes label)) ⌝ }
@@ -86,4 +90,16 @@ fn put_body(out: &mut Vec<u8>, written: &Record) -> Result<(), AllocError>
         Record::Abort { first, second } => put_shelves(out, *first, *second),
         Record::Clear { shelf } => put_shelf(out, *shelf),
     }
+}
+
+// The bytes of a record.
+pub fn write(heap: Global, written: &Record) -> Result<Vec<u8>, Unwritten>
+    ensures { λ r. ⌜ Cases r (λ v. Fits (entry (now (written .entry))) × (vec-items v ≡ bytes (entry (now (written .entry))))) (λ e. Resists e (entry (now (written .entry)))) ⌝ }
+{
+    let length = written.length().ok_or(Unwritten::Long)?;
+    let mut out = Vec::new(heap);
+    out.extend_from_slice(&length.to_le_bytes())?;
+    out.extend_from_slice(&written.kind().number().to_le_bytes())?;
+    put_body(&mut out, written)?;
+    Ok(out)
 }
