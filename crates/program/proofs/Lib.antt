@@ -3,3 +3,5 @@ pub mod Arcs
 pub mod Framing
 pub mod Turns
 pub mod Appends
+pub mod Decoding
+pub mod Readings

@@ -4,3 +4,4 @@ pub mod Entries
 pub mod Format
 pub mod Bodies
 pub mod Files
+pub mod Roundtrip

@@ -6,5 +6,6 @@ pub mod kind;
 pub mod read;
 pub mod record;
 pub mod refusal;
+pub mod roundtrip;
 pub mod unwritten;
 pub mod write;
