@@ -5,3 +5,4 @@ pub mod Turns
 pub mod Appends
 pub mod Decoding
 pub mod Readings
+pub mod Sums

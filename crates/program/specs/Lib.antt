@@ -5,3 +5,4 @@ pub mod Format
 pub mod Bodies
 pub mod Files
 pub mod Roundtrip
+pub mod Weights

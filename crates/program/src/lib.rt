@@ -8,4 +8,5 @@ pub mod record;
 pub mod refusal;
 pub mod roundtrip;
 pub mod unwritten;
+pub mod weights;
 pub mod write;
