@@ -6,8 +6,8 @@ use lib.ListN.{length, getD, take}
 use Rattle.std.specs.Joined.{joined}
 use Rattle.std.proofs.shelf.Lists.{joined-more, take-more}
 
-pub appended : {X : Type 0} (first a b : List X) {mid last : List X} → mid ≡ first ++ a → last ≡ mid ++ b → last ≡ first ++ (a ++ b)
-appended {X} first a b p q = q ∙ ap (λ (l : List X). l ++ b) p ∙ append-assoc first a b
+pub appended : {X : Type 0} (first a b last : List X) {mid : List X} → mid ≡ first ++ a → last ≡ mid ++ b → last ≡ first ++ (a ++ b)
+appended {X} first a b last p q = q ∙ ap (λ (l : List X). l ++ b) p ∙ append-assoc first a b
 
 -- the lists of one element more
 pub joined-next : {X A : Type 0} (f : X → List A) (xs : List X) (i : ℕ) (d : X) (first mid last : List A) → i < length xs → mid ≡ first ++ joined f (take i xs) → last ≡ mid ++ f (getD xs i d) → last ≡ first ++ joined f (take (i + 1) xs)

@@ -11,11 +11,11 @@ ghost use Rattle.std.specs.Results.{Cases as ByOk};
 ghost use Rattle.program.specs.declared.kind.Kind.the-variants.{Table as TableKind};
 ghost use Rattle.program.specs.Format.{FitsLabel, FitsArc, two, label-bytes, arc-bytes};
 ghost use Rattle.program.specs.Bodies.{Misfits};
-use algebra::arc::Arc;
-use algebra::label::Label;
 use crate::fault::Fault;
 use crate::fault::FaultFromAlloc;
 use crate::refusal::Refusal;
+use algebra::arc::Arc;
+use algebra::label::Label;
 use std::alloc::AllocError;
 use std::alloc::Global;
 

@@ -12,6 +12,7 @@ pub returns : need.returns
 returns c =
     let bs : List ℕ = c .args .bytes .now in
     let label = c .in-Continue-label .ensures tt in
-    let rest = sym (take-rest bs 2) ∙ label .1 in
-    ((omega (arith, c .typed .bytes 0), omega (arith, c .typed .bytes 1), label .0),
-    begins 2 bs (omega (arith, ltb-false)) ∙ (λ i. getD bs 0 0 ∷ getD bs 1 0 ∷ rest i))
+    let rest = sym (take-rest bs 2) ∙ label .1 in (
+      (omega (arith, c .typed .bytes 0), omega (arith, c .typed .bytes 1), label .0),
+      begins 2 bs (omega (arith, ltb-false)) ∙ (λ i. getD bs 0 0 ∷ getD bs 1 0 ∷ rest i),
+    )

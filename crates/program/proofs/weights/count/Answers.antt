@@ -10,10 +10,12 @@ use Rattle.program.proofs.Sums.{count-next}
 use Rattle.program.proofs.weights.count.Needs as need
 
 pub loop-item-again : need.loop-item-again
-loop-item-again c =
-    (omega (arith, c .saturating-add-sum .ensures), count-next _ _ 18446744073709551615 (c .args .records .now) (c .loop-item .item-index) _ (c .loop-item-test .taken) (c .item-item .is)
-    (c .saturating-add-sum .ensures ∙ ap (λ (n : ℕ). min (c .loop-item .sum + n) 18446744073709551615) (c .label-count .ensures))
-    ∙ c .loop-item .inv .1)
+loop-item-again c = (
+  omega (arith, c .saturating-add-sum .ensures),
+  count-next _ _ 18446744073709551615 (c .args .records .now) (c .loop-item .item-index) _ (c .loop-item-test .taken) (c .item-item .is)
+      (c .saturating-add-sum .ensures ∙ ap (λ (n : ℕ). min (c .loop-item .sum + n) 18446744073709551615) (c .label-count .ensures))
+      ∙ c .loop-item .inv .1,
+)
 
 pub returns : need.returns
 returns c =

@@ -12,4 +12,4 @@ returns c =
     let ends : List ℕ = c .args .arc .from ∷ c .args .arc .to ∷ [] in
     let first = pushed ends refl (c .in-Continue-extend-from-slice .was tt) (c .extend-from-slice .ensures .items) in
     let label = c .in-Continue-put-label .ensures tt in
-    ((omega arith, omega arith, label .0), appended (c .args .out .now .items) ends (label-bytes (c .args .arc .label)) first (label .1))
+    ((omega arith, omega arith, label .0), appended (c .args .out .now .items) ends (label-bytes (c .args .arc .label)) (c .put-label .last .out .items) first (label .1))

@@ -14,9 +14,10 @@ use Rattle.program.proofs.write.put_arcs.Needs as need
 pub loop-arc-again : need.loop-arc-again
 loop-arc-again c =
     let put = c .in-Continue-put-arc .ensures tt in
-    let more = take-more (c .args .arcs .now) (c .loop-arc .arc-index) (record { from = 0; to = 0; label = record { cycles = 0; ports = 0 } }) (c .loop-arc-test .taken) in
-    (subst (Every FitsArc) (sym more) (every-snoc FitsArc _ _ (c .loop-arc .inv .0) (put .0)),
-    joined-next arc-bytes (c .args .arcs .now) _ _ _ _ _ (c .loop-arc-test .taken) (c .loop-arc .inv .1) (put .1))
+    let more = take-more (c .args .arcs .now) (c .loop-arc .arc-index) (record { from = 0; to = 0; label = record { cycles = 0; ports = 0 } }) (c .loop-arc-test .taken) in (
+      subst (Every FitsArc) (sym more) (every-snoc FitsArc _ _ (c .loop-arc .inv .0) (put .0)),
+      joined-next arc-bytes (c .args .arcs .now) _ _ _ _ _ (c .loop-arc-test .taken) (c .loop-arc .inv .1) (put .1),
+    )
 
 pub returns : need.returns
 returns c =

@@ -10,4 +10,4 @@ pub returns : need.returns
 returns c =
     let first = pushed (c .to-le-bytes .result) refl (c .in-Continue-extend-from-slice .was tt) (c .extend-from-slice .ensures .items) in
     let last = pushed (c .to-le-bytes-2 .result) refl (c .in-Continue-extend-from-slice-2 .was tt) (c .extend-from-slice-2 .ensures .items) in
-    ((omega arith, omega arith), appended (c .args .out .now .items) (c .to-le-bytes .result) (c .to-le-bytes-2 .result) first last ∙ (λ i. c .args .out .now .items ++ (c .to-le-bytes .ensures i ++ c .to-le-bytes-2 .ensures i)))
+    ((omega arith, omega arith), appended (c .args .out .now .items) (c .to-le-bytes .result) (c .to-le-bytes-2 .result) (c .extend-from-slice-2 .last .self .items) first last ∙ (λ i. c .args .out .now .items ++ (c .to-le-bytes .ensures i ++ c .to-le-bytes-2 .ensures i)))

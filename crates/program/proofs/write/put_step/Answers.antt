@@ -12,4 +12,4 @@ returns c =
     let shelf : List ℕ = c .args .shelf ∷ [] in
     let first = pushed shelf refl (c .in-Continue-push .was tt) (c .push .ensures .items) in
     let label = c .in-Continue-put-label .ensures tt in
-    (omega arith, label .0, appended (c .args .out .now .items) shelf (label-bytes (c .args .label)) first (label .1))
+    (omega arith, label .0, appended (c .args .out .now .items) shelf (label-bytes (c .args .label)) (c .put-label .last .out .items) first (label .1))

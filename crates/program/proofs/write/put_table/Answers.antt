@@ -16,4 +16,5 @@ returns c =
     let first = pushed shelf refl (c .in-Continue-push .was tt) (c .push .ensures .items) in
     let second = pushed count refl (c .in-Continue-extend-from-slice .was tt) (c .extend-from-slice .ensures .items) in
     let arcs = c .in-Continue-put-arcs .ensures tt in
-    (omega arith, arcs .0, appended (c .args .out .now .items) shelf (count ++ all) first (appended (c .push .last .self .items) count all second (arcs .1)) ∙ (λ i. c .args .out .now .items ++ (c .args .shelf ∷ (c .to-le-bytes .ensures i ++ all))))
+    let last : List ℕ = c .put-arcs .last .out .items in
+    (omega arith, arcs .0, appended (c .args .out .now .items) shelf (count ++ all) last first (appended (c .push .last .self .items) count all last second (arcs .1)) ∙ (λ i. c .args .out .now .items ++ (c .args .shelf ∷ (c .to-le-bytes .ensures i ++ all))))
