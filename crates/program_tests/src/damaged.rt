@@ -10,35 +10,7 @@ const NODE: [u8; 13] = [13, 0, 1, 0, 2, 0xe8, 3, 0, 0, 1, 0, 0, 0];
 
 const LOOP: [u8; 5] = [5, 0, 6, 0, 2];
 
-const TABLE: [u8; 27] = [
-    27,
-    0,
-    3,
-    0,
-    1,
-    2,
-    0,
-    0,
-    1,
-    5,
-    0,
-    0,
-    0,
-    0,
-    0,
-    0,
-    0,
-    1,
-    255,
-    7,
-    0,
-    0,
-    0,
-    4,
-    0,
-    0,
-    0,
-];
+const TABLE: [u8; 17] = [17, 0, 3, 0, 3, 1, 0, 1, 255, 5, 0, 0, 0, 4, 0, 0, 0];
 
 fn reads(heap: Global, bytes: &[u8], before: usize, refusal: Option<Refusal>) -> Result<(), Fail> {
     let listing = list(heap, bytes)?;
@@ -55,7 +27,7 @@ fn cut_short(rt: LibcRuntime) -> Result<(), Fail> {
         reads(heap, &NODE[0..n], 0, cut)?;
     }
     reads(heap, &NODE, 1, None)?;
-    for n in 1..27usize {
+    for n in 1..17usize {
         reads(heap, &TABLE[0..n], 0, cut)?;
     }
     reads(heap, &TABLE, 1, None)?;

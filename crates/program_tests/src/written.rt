@@ -17,153 +17,49 @@ use program::write::write;
 use std::alloc::Global;
 use std::test::*;
 
-// Every kind once, with numbers in every byte.
-const EVERY_KIND: [u8; 87] = [
-    13,
-    0,
-    1,
-    0,
-    1,
-    4,
-    3,
-    2,
-    1,
-    8,
-    7,
-    6,
-    5, // node
-    13,
-    0,
-    2,
-    0,
-    2,
-    255,
-    255,
-    255,
-    255,
-    1,
-    0,
-    0,
-    128, // pause
-    27,
-    0,
-    3,
-    0,
-    3,
-    2,
-    0,
-    0,
-    1,
-    5,
-    0,
-    0,
-    0,
-    0,
-    0,
-    0,
-    0,
-    1,
-    255,
-    0,
-    7,
-    0,
-    0,
-    0,
-    0,
-    4,
-    0, // table
-    6,
-    0,
-    4,
-    0,
-    1,
-    2, // choice
-    6,
-    0,
-    5,
-    0,
-    3,
-    4, // sequence
-    5,
-    0,
-    6,
-    0,
-    5, // loop
-    6,
-    0,
-    7,
-    0,
-    6,
-    7, // fork
-    6,
-    0,
-    8,
-    0,
-    8,
-    9, // abort
-    5,
-    0,
-    9,
-    0,
-    10, // clear
-];
+const NODE: [u8; 13] = [13, 0, 1, 0, 1, 4, 3, 2, 1, 8, 7, 6, 5];
 
-const TWO_STEPS: [u8; 26] = [
-    13,
-    0,
-    1,
-    0,
-    0,
-    0xe8,
-    3,
-    0,
-    0,
-    1,
-    0,
-    0,
-    0, // node
-    13,
-    0,
-    2,
-    0,
-    1,
-    4,
-    0,
-    0,
-    0,
-    3,
-    0,
-    0,
-    0, // pause
-];
+const PAUSE: [u8; 13] = [13, 0, 2, 0, 2, 255, 255, 255, 255, 1, 0, 0, 128];
+
+const TABLE: [u8; 17] = [17, 0, 3, 0, 3, 1, 0, 1, 255, 0, 7, 0, 0, 0, 0, 4, 0];
+
+// One record, read and written again, is the same bytes.
+fn same(heap: Global, bytes: &[u8]) -> Result<(), Fail> {
+    let listing = list(heap, bytes)?;
+    check(listing.records.len() == 1)?;
+    let again = write(heap, &listing.records[0])?;
+    check(again.as_slice() == bytes)
+}
 
 #[test]
 fn round_trip(rt: LibcRuntime) -> Result<(), Fail> {
     let heap = rt.alloc();
-    let listing = list(heap, &EVERY_KIND)?;
-    check_eq(listing.records.len(), 9)?;
-    let mut again = Vec::new(heap);
-    for item in listing.records.iter() {
-        let bytes = write(heap, item)?;
-        again.extend_from_slice(bytes.as_slice())?;
-    }
-    check(again.as_slice() == &EVERY_KIND)
+    same(heap, &NODE)?;
+    same(heap, &PAUSE)?;
+    same(heap, &TABLE)?;
+    same(heap, &[6, 0, 4, 0, 1, 2])?;
+    same(heap, &[6, 0, 5, 0, 3, 4])?;
+    same(heap, &[5, 0, 6, 0, 5])?;
+    same(heap, &[6, 0, 7, 0, 6, 7])?;
+    same(heap, &[6, 0, 8, 0, 8, 9])?;
+    same(heap, &[5, 0, 9, 0, 10])
 }
 
 #[test]
 fn weights(rt: LibcRuntime) -> Result<(), Fail> {
-    let listing = list(rt.alloc(), &EVERY_KIND)?;
-    let records = listing.records.as_slice();
-    check_eq(count(records), 4)?;
-    check_eq(weight::<Worst>(records).cycles, 4_294_967_295)?;
-    check_eq(weight::<Best>(records).cycles, 4_294_967_295)?;
-    check_eq(weight::<Ports>(records).bits, 0x8506_0709)?;
-    let listing = list(rt.alloc(), &TWO_STEPS)?;
+    let mut bytes = NODE.to_vec(rt.alloc())?;
+    bytes.extend_from_slice(&TABLE)?;
+    let listing = list(rt.alloc(), bytes.as_slice())?;
     let records = listing.records.as_slice();
     check_eq(count(records), 2)?;
-    check_eq(weight::<Worst>(records).cycles, 1004)?;
-    check_eq(weight::<Best>(records).cycles, 1004)?;
-    check_eq(weight::<Ports>(records).bits, 3)
+    check_eq(weight::<Worst>(records).cycles, 16_909_060 + 1792)?;
+    check_eq(weight::<Ports>(records).bits, 0x0506_0708 | 0x0004_0000)?;
+    bytes.extend_from_slice(&PAUSE)?;
+    let listing = list(rt.alloc(), bytes.as_slice())?;
+    let records = listing.records.as_slice();
+    check_eq(count(records), 3)?;
+    check_eq(weight::<Worst>(records).cycles, 4_294_967_295)?;
+    check_eq(weight::<Best>(records).cycles, 4_294_967_295)
 }
 
 fn with_arcs(heap: Global, count: usize) -> Result<Record, Fail> {

@@ -45,9 +45,10 @@ fn print_totals(rt: &LibcRuntime, records: &[Record]) -> io::Result<()> {
     println!(rt, "ports {ports}")
 }
 
+// Records are numbered from 0, so the one that is refused has the count of those before it.
 fn print_refusal(rt: &LibcRuntime, why: Refusal, before: usize) -> io::Result<()> {
     let number = why.number();
-    println!(rt, "refused {number} after {before} records")
+    println!(rt, "refused {number} record {before}")
 }
 
 fn main(rt: LibcRuntime) -> io::Result<()> {
