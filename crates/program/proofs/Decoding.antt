@@ -1,7 +1,7 @@
 -- The entry and the rest are functions of the bytes that spell them.
 use mathlib.Core.Path.{_≡_, refl, sym, ap, _∙_}
 use mathlib.Core.List.{List, [], _∷_, _++_}
-use Prim.Native.Nat.{ℕ, zero, suc, _+_, _-_, _*_, _/_, _%_, _^_, _≤_, _<_}
+use Prim.Native.Nat.{ℕ, zero, suc, _+_, _-_, _*_, _/_, _%_, _^_, _<_}
 use native.Mathlib.Nat.{div-add-mod', div-div-eq-div-mul, mod-eq-of-lt}
 use native.Mathlib.Omega.{arith}
 use lib.ListN.{length, getD, drop}
@@ -14,7 +14,7 @@ use Rattle.program.specs.declared.kind.Kind.{Kind}
 use Rattle.program.specs.declared.kind.Kind.the-variants.{Node, Pause, Table, Choice, Sequence, Loop, Fork, Abort, Clear}
 use Rattle.program.specs.Kinds.{number, due}
 use Rattle.program.specs.Entries.{Entry, node, pause, table, choice, sequence, repeat, fork, abort, clear}
-use Rattle.program.specs.Format.{two, four, label-bytes, arc-bytes, kind, long, body, bytes, FitsLabel, FitsArc, Fits, Spells, length-in, kind-in, count-in}
+use Rattle.program.specs.Format.{label-bytes, arc-bytes, kind, long, body, bytes, FitsLabel, FitsArc, Fits, Spells, length-in, kind-in, count-in}
 use Rattle.program.proofs.Framing.{length-body}
 
 -- a number is what its bytes spell

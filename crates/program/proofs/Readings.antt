@@ -1,7 +1,7 @@
 -- Bytes have one reading, and reading and writing undo each other.
 use mathlib.Core.Path.{_≡_, refl, sym, ap, subst, _∙_}
-use mathlib.Core.List.{List, [], _∷_, _++_, append-assoc}
-use Prim.Native.Nat.{ℕ, _+_, _≤_, _<_}
+use mathlib.Core.List.{List, [], _∷_, _++_}
+use Prim.Native.Nat.{ℕ}
 use native.Mathlib.Omega.{arith}
 use lib.ListN.{length, length-append}
 use Rattle.std.specs.declared.option.Option.{Option}
@@ -10,10 +10,10 @@ use Rattle.std.specs.Joined.{joined}
 use Rattle.std.specs.Vec.{Every}
 use Rattle.program.specs.declared.refusal.Refusal.{Refusal}
 use Rattle.program.specs.declared.refusal.Refusal.the-variants.{Large, Cut, Unknown, Misfit}
-use Rattle.program.specs.Kinds.{number, due}
+use Rattle.program.specs.Kinds.{due}
 use Rattle.program.specs.Entries.{Entry}
 use Rattle.program.specs.Files.{Listed, ended, stopped, next}
-use Rattle.program.specs.Format.{kind, long, body, bytes, Fits, Spells, Framed, Refuses, length-in, kind-in, count-in}
+use Rattle.program.specs.Format.{kind, long, bytes, Fits, Spells, Refuses, count-in}
 use Rattle.program.specs.Roundtrip.{OneReading, RoundTrip, FileRoundTrip}
 use Rattle.program.proofs.Decoding.{length-back, kind-in-back, due-back, one-kind, one-entry}
 use Rattle.program.proofs.Framing.{length-body}

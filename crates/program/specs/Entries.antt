@@ -1,4 +1,4 @@
--- What a record says: its kind, with numbers and lists for what it holds.
+-- What a record says.
 use Prim.Native.Nat.{ℕ}
 use mathlib.Core.List.{List}
 use Rattle.std.specs.Of.Vec.{vec-items}
@@ -7,6 +7,7 @@ use Rattle.algebra.specs.declared.label.Label.{Label}
 use Rattle.program.specs.declared.record.Record.{Record}
 use Rattle.program.specs.declared.record.Record.the-variants.{Node, Pause, Table, Choice, Sequence, Loop, Fork, Abort, Clear}
 
+-- the cases of a record, with the list of arcs for a table's vector
 pub data Entry : Type 0 where
   node : (shelf : ℕ) (label : Label) → Entry
   pause : (shelf : ℕ) (label : Label) → Entry
@@ -18,6 +19,7 @@ pub data Entry : Type 0 where
   abort : (first second : ℕ) → Entry
   clear : (shelf : ℕ) → Entry
 
+-- what a record says; two records that say the same are the same step
 abbrev pub entry : Record → Entry
 entry (Node shelf label) = node shelf label
 entry (Pause shelf label) = pause shelf label

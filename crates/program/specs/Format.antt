@@ -33,6 +33,7 @@ label-bytes l = four (l .cycles) ++ four (l .ports)
 abbrev pub arc-bytes : Arc → List ℕ
 arc-bytes a = a .from ∷ a .to ∷ label-bytes (a .label)
 
+-- the kind of an entry
 abbrev pub kind : Entry → Kind
 kind (node s l) = kinds.the-variants.Node
 kind (pause s l) = kinds.the-variants.Pause
@@ -44,7 +45,7 @@ kind (fork a b) = kinds.the-variants.Fork
 kind (abort a b) = kinds.the-variants.Abort
 kind (clear s) = kinds.the-variants.Clear
 
--- how many arcs an entry has
+-- the arcs of an entry
 abbrev pub arcs-of : Entry → List Arc
 arcs-of (node s l) = []
 arcs-of (pause s l) = []
@@ -94,6 +95,7 @@ FitsBody (fork a b) = (a < 256) × (b < 256)
 FitsBody (abort a b) = (a < 256) × (b < 256)
 FitsBody (clear s) = s < 256
 
+-- and two bytes hold the length
 abbrev pub Fits : Entry → Type 0
 Fits e = (long e < 65536) × FitsBody e
 
@@ -115,7 +117,7 @@ count-in bs = getD bs 5 0 + getD bs 6 0 * 256
 abbrev pub Framed : List ℕ → Type 0
 Framed bs = (4 ≤ length bs) × (4 ≤ length-in bs) × (length-in bs ≤ length bs)
 
--- the first question of a record that these bytes answer with no
+-- the first question of a record that these bytes answer no; the size of the file is no question of a record
 abbrev pub Refuses : Refusal → List ℕ → Type 0
 Refuses Large bs = ⊥
 Refuses Cut bs = Framed bs → ⊥

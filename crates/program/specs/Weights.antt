@@ -1,13 +1,12 @@
 -- The labels of entries, and their weights added.
 use mathlib.Core.List.{List, [], _∷_, map}
 use Rattle.std.specs.Joined.{joined}
-use Rattle.std.specs.Of.Vec.{vec-items}
-use Rattle.algebra.specs.declared.arc.Arc.{Arc}
 use Rattle.algebra.specs.declared.label.Label.{Label}
 use Rattle.algebra.specs.Model.{Model}
 use Rattle.program.specs.declared.record.Record.{Record}
 use Rattle.program.specs.Entries.{Entry, entry, node, pause, table, choice, sequence, repeat, fork, abort, clear}
 
+-- one label for each node, pause and arc
 abbrev pub labels : Entry → List Label
 labels (node s l) = l ∷ []
 labels (pause s l) = l ∷ []

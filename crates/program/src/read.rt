@@ -1,7 +1,5 @@
 // Reads one record from the first bytes of a file, or of what is left of one.
-ghost use mathlib.Core.List.{List};
 ghost use mathlib.Core.Path.{_≡_};
-ghost use Prim.Native.Nat.{ℕ};
 ghost use Rattle.std.specs.Results.{Cases};
 ghost use Rattle.program.specs.Bodies.{Misfits};
 ghost use Rattle.program.specs.Entries.{entry};

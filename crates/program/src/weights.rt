@@ -1,7 +1,7 @@
 // The weights of the labels of records, added under any algebra.
 ghost use mathlib.Core.List.{map};
 ghost use mathlib.Core.Path.{_≡_};
-ghost use Prim.Native.Nat.{ℕ, _+_, min};
+ghost use Prim.Native.Nat.{min};
 ghost use lib.ListN.{length};
 ghost use Rattle.program.specs.Entries.{entry};
 ghost use Rattle.program.specs.Weights.{labels, all-labels, added};

@@ -10,9 +10,11 @@ use Rattle.algebra.specs.declared.arc.Arc.{Arc}
 use Rattle.algebra.specs.declared.label.Label.{Label}
 use Rattle.program.specs.Entries.{Entry, node, pause, table, choice, sequence, repeat, fork, abort, clear}
 
+-- a label, after what it is the label of
 abbrev pub label-words : Label → List ℕ
 label-words l = codes " cycles " ++ (decimal (l .cycles) ++ (codes " ports " ++ decimal (l .ports)))
 
+-- the name of a kind with what its records hold
 abbrev pub step-words : List ℕ → ℕ → Label → List ℕ
 step-words name shelf l = name ++ (codes " shelf " ++ (decimal shelf ++ label-words l))
 
@@ -41,6 +43,7 @@ words (clear s) = shelf-words (codes "clear") s
 abbrev pub end-words : ℕ → List ℕ
 end-words to = cond (eqb to 255) (codes "out") (decimal to)
 
+-- an arc in words
 abbrev pub arc-words : Arc → List ℕ
 arc-words a = codes "from " ++ (decimal (a .from) ++ (codes " to " ++ (end-words (a .to) ++ label-words (a .label))))
 

@@ -2,7 +2,6 @@ use mathlib.Core.Path.{sym, ap, subst}
 use mathlib.Core.List.{List}
 use native.Mathlib.Omega.{arith}
 use borrow.Author.Tests.{true-eqb, false-eqb}
-use lib.ListN.{length}
 use Rattle.std.specs.Results.{isOk}
 use Rattle.std.proofs.Told.{chosen}
 use Rattle.std.proofs.shelf.Lists.{nil-from-length}

@@ -1,6 +1,5 @@
-use mathlib.Core.Path.{refl, ap, _∙_}
-use mathlib.Core.List.{List, _++_}
-use Prim.Native.Nat.{ℕ}
+use mathlib.Core.Path.{refl, _∙_}
+use mathlib.Core.List.{_++_}
 use native.Mathlib.Omega.{arith}
 use Rattle.std.proofs.shelf.Parts.{pushed}
 use Rattle.program.proofs.Appends.{appended}
