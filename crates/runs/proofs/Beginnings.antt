@@ -1,0 +1,1 @@
+use Rattle.runs.specs.Runs.{Ticks, over, tie}

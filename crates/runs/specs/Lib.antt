@@ -1,0 +1,5 @@
+pub mod Plan
+pub mod Runs
+pub mod Joined
+pub mod Weights
+pub mod Beginnings

@@ -1,0 +1,33 @@
+-- The weights of runs.
+use mathlib.Core.Path.{_≡_}
+use mathlib.Core.List.{List, [], _∷_}
+use Prim.Native.Nat.{ℕ, suc}
+use lib.ListN.{length, getD}
+use Rattle.algebra.specs.Model.{Model}
+use Rattle.algebra.specs.Coefficients.{Coef}
+use Rattle.runs.specs.Plan.{Plan}
+use Rattle.runs.specs.Runs.{End, paused, left, Ticks, Runs}
+use Rattle.runs.specs.Joined.{Joined}
+
+-- over a model, and what each thing that a tick may hold weighs
+module _ (m : Model) {X : Type 0} (weigh : X → m .Carrier) where
+  -- the weight of a tick: the unit with the weights of what it holds added
+  abbrev pub weight : List X → m .Carrier
+  weight [] = m .unit
+  weight (x ∷ xs) = m .add (weigh x) (weight xs)
+
+  -- the weight of a run at tick n
+  abbrev pub weight-at : Ticks X → ℕ → m .Carrier
+  weight-at ts n = weight (getD ts n [])
+
+  -- some run of the set has n + 1 ticks and the weight w at the last of them
+  pub record Weighs (A : Ticks X → Type 0) (n : ℕ) (w : m .Carrier) : Type 0 where
+    pub run : Ticks X
+    pub of-set : A run
+    pub long : length run ≡ suc n
+    pub weighs : weight-at run n ≡ w
+
+  -- p and e are the joined weights of the plan at every tick, paused and left
+  pub record Rows (plan : Plan X) (p e : ℕ → Coef m) : Type 0 where
+    pub pauses : (n : ℕ) → Joined m (Weighs (Runs plan paused) n) (p n)
+    pub leaves : (n : ℕ) → Joined m (Weighs (Runs plan left) n) (e n)
