@@ -131,7 +131,7 @@ module _ (m : Model) (laws : Laws m) where
   pub add-both : (a b c d : Coef m) → Below a c → Below b d → Below (add m a b) (add m c d)
   add-both a b c d p q =
       below-trans (add m a b) (add m a d) (add m c d) (add-above a b d q)
-        (cc (add-above d a c p, coef-laws m laws .add-comm a d, coef-laws m laws .add-comm c d))
+      (cc (add-above d a c p, coef-laws m laws .add-comm a d, coef-laws m laws .add-comm c d))
 
   -- a weight of the one added to a weight of the other
   abbrev pub Sum : Set → Set → Set
@@ -207,6 +207,6 @@ module _ (m : Model) (laws : Laws m) where
   joins-above f k zero l = absurd (omega arith)
   joins-above f k (suc n) l =
       elim (ℕ-discrete k n) [
-        yes e ↦ subst (λ x. Below (f x) (join m (joins m f n) (f n))) (sym e) (below-second (joins m f n) (f n))
-      | no e ↦ below-trans (f k) (joins m f n) (join m (joins m f n) (f n)) (joins-above f k n (omega arith)) (below-first (joins m f n) (f n))
+        | yes e ↦ subst (λ x. Below (f x) (join m (joins m f n) (f n))) (sym e) (below-second (joins m f n) (f n))
+        | no e ↦ below-trans (f k) (joins m f n) (join m (joins m f n) (f n)) (joins-above f k n (omega arith)) (below-first (joins m f n) (f n))
       ]

@@ -1,3 +1,4 @@
 pub mod Joined
 pub mod Ticks
+pub mod Filled
 pub mod Beginnings
