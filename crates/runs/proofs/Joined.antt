@@ -21,93 +21,101 @@ abbrev pub gate : (m : Model) → Coef m → Coef m → Coef m
 gate m None b = None
 gate m (Some a) b = b
 
-module _ (m : Model) (laws : Laws m) where
-  -- a set of weights
-  abbrev Set : Type 1
-  Set = m .Carrier → Type 0
+-- a set of weights
+abbrev pub Set : Model → Type 1
+Set m = m .Carrier → Type 0
 
-  abbrev Members : Set → Type 0
+-- a weight of the one added to a weight of the other
+abbrev pub Sum : (m : Model) → Set m → Set m → Set m
+Sum m V W w = (v : m .Carrier) × (u : m .Carrier) × V v × W u × (w ≡ m .add v u)
+
+-- the second where the first has a member
+abbrev pub Gated : (m : Model) → Set m → Set m → Set m
+Gated m V W w = ((v : m .Carrier) × V v) × W w
+
+-- a is below b: joined with b it is b
+abbrev pub Below : (m : Model) → Coef m → Coef m → Type 0
+Below m a b = join m a b ≡ b
+
+module _ (m : Model) (laws : Laws m) where
+  abbrev Members : Set m → Type 0
   Members W = List ((w : m .Carrier) × W w)
 
-  abbrev total : {W : Set} → Members W → Coef m
+  abbrev total : {W : Set m} → Members W → Coef m
   total ws = joined m (map (λ w. w .0) ws)
 
-  -- a is below b: joined with b it is b
-  abbrev Below : Coef m → Coef m → Type 0
-  Below a b = join m a b ≡ b
-
-  pub below-both : (a b c : Coef m) → Below a c → Below b c → Below (join m a b) c
+  pub below-both : (a b c : Coef m) → Below m a c → Below m b c → Below m (join m a b) c
   below-both a b c p q = coef-laws m laws .join-assoc a b c ∙ ap (join m a) q ∙ p
 
-  pub below-trans : (a b c : Coef m) → Below a b → Below b c → Below a c
+  pub below-trans : (a b c : Coef m) → Below m a b → Below m b c → Below m a c
   below-trans a b c p q = ap (join m a) (sym q) ∙ sym (coef-laws m laws .join-assoc a b c) ∙ ap (λ x. join m x c) p ∙ q
 
-  pub below-first : (a b : Coef m) → Below a (join m a b)
+  pub below-first : (a b : Coef m) → Below m a (join m a b)
   below-first a b = sym (coef-laws m laws .join-assoc a a b) ∙ ap (λ x. join m x b) (coef-laws m laws .join-self a)
 
-  pub below-second : (a b : Coef m) → Below b (join m a b)
+  pub below-second : (a b : Coef m) → Below m b (join m a b)
   below-second a b = ap (join m b) (coef-laws m laws .join-comm a b) ∙ below-first b a ∙ coef-laws m laws .join-comm b a
 
-  pub below-antisym : (a b : Coef m) → Below a b → Below b a → a ≡ b
+  pub below-antisym : (a b : Coef m) → Below m a b → Below m b a → a ≡ b
   below-antisym a b p q = sym q ∙ coef-laws m laws .join-comm b a ∙ p
 
-  total-below : {W : Set} (ws : Members W) (c : Coef m) → ((w : m .Carrier) → W w → Below (Some w) c) → Below (total ws) c
+  total-below : {W : Set m} (ws : Members W) (c : Coef m) → ((w : m .Carrier) → W w → Below m (Some w) c) → Below m (total ws) c
   total-below [] c up = refl
   total-below (w ∷ ws) c up = below-both (Some (w .0)) (total ws) c (up (w .0) (w .1)) (total-below ws c up)
 
-  pub unique : {W : Set} {c d : Coef m} → Joined m W c → Joined m W d → c ≡ d
+  pub unique : {W : Set m} {c d : Coef m} → Joined m W c → Joined m W d → c ≡ d
   unique {W} {c} {d} j k =
-      below-antisym c d (subst (λ x. Below x d) (sym (j .made)) (total-below (j .members) d (k .upper))) (subst (λ x. Below x c) (sym (k .made)) (total-below (k .members) c (j .upper)))
+      below-antisym c d (subst (λ x. Below m x d) (sym (j .made)) (total-below (j .members) d (k .upper))) (subst (λ x. Below m x c) (sym (k .made)) (total-below (k .members) c (j .upper)))
 
   -- a bound of every member bounds the joined weight
-  pub least : {W : Set} {c : Coef m} → Joined m W c → (d : Coef m) → ((w : m .Carrier) → W w → Below (Some w) d) → Below c d
-  least j d up = subst (λ x. Below x d) (sym (j .made)) (total-below (j .members) d up)
+  pub least : {W : Set m} {c : Coef m} → Joined m W c → (d : Coef m) → ((w : m .Carrier) → W w → Below m (Some w) d) → Below m c d
+  least j d up = subst (λ x. Below m x d) (sym (j .made)) (total-below (j .members) d up)
 
-  pub empty : {W : Set} → ((w : m .Carrier) → W w → ⊥) → Joined m W None
+  pub empty : {W : Set m} → ((w : m .Carrier) → W w → ⊥) → Joined m W None
   empty no-member = record { upper = λ w h. absurd (no-member w h); members = []; made = refl }
 
   -- absent: no member
-  pub none : {W : Set} {w : m .Carrier} → Joined m W None → W w → ⊥
-  none {W} {w} j h = let e : Below (Some w) None = j .upper w h in let z : _≡_ {A = ℕ} 0 1 = cc in omega arith
+  pub none : {W : Set m} {w : m .Carrier} → Joined m W None → W w → ⊥
+  none {W} {w} j h = let e : Below m (Some w) None = j .upper w h in let z : _≡_ {A = ℕ} 0 1 = cc in omega arith
 
   -- present: a member
-  pub some-member : {W : Set} {x : m .Carrier} → Joined m W (Some x) → (w : m .Carrier) × W w
+  pub some-member : {W : Set m} {x : m .Carrier} → Joined m W (Some x) → (w : m .Carrier) × W w
   some-member {W} {x} j = go (j .members) (j .made)
     where
       go : (ws : Members W) → Some x ≡ total ws → (w : m .Carrier) × W w
       go [] e = let z : _≡_ {A = ℕ} 0 1 = cc in absurd (omega arith)
       go (w ∷ ws) e = w
 
-  pub one : {W : Set} {v : m .Carrier} → W v → ((w : m .Carrier) → W w → w ≡ v) → Joined m W (Some v)
+  pub one : {W : Set m} {v : m .Carrier} → W v → ((w : m .Carrier) → W w → w ≡ v) → Joined m W (Some v)
   one {W} {v} h only = record {
     upper = λ w k. ap (λ x. Some (m .join x v)) (only w k) ∙ ap Some (laws .join-self v);
     members = (v, h) ∷ [];
     made = refl;
   }
 
-  map-members : {V W : Set} → ((w : m .Carrier) → V w → W w) → Members V → Members W
+  map-members : {V W : Set m} → ((w : m .Carrier) → V w → W w) → Members V → Members W
   map-members f [] = []
   map-members f (v ∷ vs) = (v .0, f (v .0) (v .1)) ∷ map-members f vs
 
-  total-map : {V W : Set} (f : (w : m .Carrier) → V w → W w) (vs : Members V) → total (map-members f vs) ≡ total vs
+  total-map : {V W : Set m} (f : (w : m .Carrier) → V w → W w) (vs : Members V) → total (map-members f vs) ≡ total vs
   unfolding map-members
   total-map f [] = refl
   total-map f (v ∷ vs) = ap (join m (Some (v .0))) (total-map f vs)
 
   -- same members, same joined weight
-  pub same : {V W : Set} {c : Coef m} → ((w : m .Carrier) → V w → W w) → ((w : m .Carrier) → W w → V w) → Joined m V c → Joined m W c
+  pub same : {V W : Set m} {c : Coef m} → ((w : m .Carrier) → V w → W w) → ((w : m .Carrier) → W w → V w) → Joined m V c → Joined m W c
   same f g j = record {
     upper = λ w h. j .upper w (g w h);
     members = map-members f (j .members);
     made = j .made ∙ sym (total-map f (j .members));
   }
 
-  total-append : {W : Set} (vs ws : Members W) → total (vs ++ ws) ≡ join m (total vs) (total ws)
+  total-append : {W : Set m} (vs ws : Members W) → total (vs ++ ws) ≡ join m (total vs) (total ws)
   total-append [] ws = refl
   total-append (v ∷ vs) ws = ap (join m (Some (v .0))) (total-append vs ws) ∙ sym (coef-laws m laws .join-assoc (Some (v .0)) (total vs) (total ws))
 
   -- a union of two
-  pub or : {V W : Set} {c d : Coef m} → Joined m V c → Joined m W d → Joined m (λ w. V w ⊎ W w) (join m c d)
+  pub or : {V W : Set m} {c d : Coef m} → Joined m V c → Joined m W d → Joined m (λ w. V w ⊎ W w) (join m c d)
   or {V} {W} {c} {d} j k = record {
     upper = up;
     members = map-members (λ w. inl) (j .members) ++ map-members (λ w. inr) (k .members);
@@ -120,34 +128,30 @@ module _ (m : Model) (laws : Laws m) where
     ));
   }
     where
-      up : (w : m .Carrier) → V w ⊎ W w → Below (Some w) (join m c d)
+      up : (w : m .Carrier) → V w ⊎ W w → Below m (Some w) (join m c d)
       up w (inl h) = below-trans (Some w) c (join m c d) (j .upper w h) (below-first c d)
       up w (inr h) = below-trans (Some w) d (join m c d) (k .upper w h) (below-second c d)
 
-  add-above : (a b c : Coef m) → Below b c → Below (add m a b) (add m a c)
+  add-above : (a b c : Coef m) → Below m b c → Below m (add m a b) (add m a c)
   add-above a b c p = sym (coef-laws m laws .add-join a b c) ∙ ap (add m a) p
 
   -- sums keep the order
-  pub add-both : (a b c d : Coef m) → Below a c → Below b d → Below (add m a b) (add m c d)
+  pub add-both : (a b c d : Coef m) → Below m a c → Below m b d → Below m (add m a b) (add m c d)
   add-both a b c d p q =
       below-trans (add m a b) (add m a d) (add m c d) (add-above a b d q)
       (cc (add-above d a c p, coef-laws m laws .add-comm a d, coef-laws m laws .add-comm c d))
 
-  -- a weight of the one added to a weight of the other
-  abbrev pub Sum : Set → Set → Set
-  Sum V W w = (v : m .Carrier) × (u : m .Carrier) × V v × W u × (w ≡ m .add v u)
-
-  add-members : {V W : Set} (v : (v : m .Carrier) × V v) → Members W → Members (Sum V W)
+  add-members : {V W : Set m} (v : (v : m .Carrier) × V v) → Members W → Members (Sum m V W)
   add-members v [] = []
   add-members v (w ∷ ws) = (m .add (v .0) (w .0), (v .0, w .0, v .1, w .1, refl)) ∷ add-members v ws
 
-  total-add : {V W : Set} (v : (v : m .Carrier) × V v) (ws : Members W) → total (add-members {V = V} v ws) ≡ add m (Some (v .0)) (total ws)
+  total-add : {V W : Set m} (v : (v : m .Carrier) × V v) (ws : Members W) → total (add-members {V = V} v ws) ≡ add m (Some (v .0)) (total ws)
   unfolding add-members
   total-add v [] = refl
   total-add {V} v (w ∷ ws) =
       ap (join m (Some (m .add (v .0) (w .0)))) (total-add {V = V} v ws) ∙ sym (coef-laws m laws .add-join (Some (v .0)) (Some (w .0)) (total ws))
 
-  sum-members : {V W : Set} → Members V → Members W → Members (Sum V W)
+  sum-members : {V W : Set m} → Members V → Members W → Members (Sum m V W)
   sum-members [] ws = []
   sum-members {V} (v ∷ vs) ws = add-members {V = V} v ws ++ sum-members vs ws
 
@@ -155,30 +159,26 @@ module _ (m : Model) (laws : Laws m) where
   add-join-left a b c =
       coef-laws m laws .add-comm (join m a b) c ∙ (cc (coef-laws m laws .add-join c a b, coef-laws m laws .add-comm a c, coef-laws m laws .add-comm b c))
 
-  total-sum : {V W : Set} (vs : Members V) (ws : Members W) → total (sum-members vs ws) ≡ add m (total vs) (total ws)
+  total-sum : {V W : Set m} (vs : Members V) (ws : Members W) → total (sum-members vs ws) ≡ add m (total vs) (total ws)
   unfolding sum-members
   total-sum [] ws = refl
   total-sum {V} {W} (v ∷ vs) ws =
-      (cc (total-append {W = Sum V W} (add-members {V = V} v ws) (sum-members vs ws), total-add {V = V} v ws, total-sum vs ws, add-join-left (Some (v .0)) (total vs) (total ws)))
+      (cc (total-append {W = Sum m V W} (add-members {V = V} v ws) (sum-members vs ws), total-add {V = V} v ws, total-sum vs ws, add-join-left (Some (v .0)) (total vs) (total ws)))
 
   -- sums of two
-  pub sum : {V W : Set} {c d : Coef m} → Joined m V c → Joined m W d → Joined m (Sum V W) (add m c d)
+  pub sum : {V W : Set m} {c d : Coef m} → Joined m V c → Joined m W d → Joined m (Sum m V W) (add m c d)
   sum {V} {W} {c} {d} j k = record {
     upper = λ w h. ap (λ x. join m (Some x) (add m c d)) (h .4) ∙ add-both (Some (h .0)) (Some (h .1)) c d (j .upper (h .0) (h .2)) (k .upper (h .1) (h .3));
     members = sum-members (j .members) (k .members);
     made = (cc (total-sum (j .members) (k .members), j .made, k .made));
   }
 
-  -- the second where the first has a member
-  abbrev pub Gated : Set → Set → Set
-  Gated V W w = ((v : m .Carrier) × V v) × W w
-
-  pub gated : {V W : Set} {c d : Coef m} → Joined m V c → Joined m W d → Joined m (Gated V W) (gate m c d)
+  pub gated : {V W : Set m} {c d : Coef m} → Joined m V c → Joined m W d → Joined m (Gated m V W) (gate m c d)
   gated {c = None} j k = empty (λ w h. none j (h .0 .1))
   gated {c = Some x} j k = same (λ w h. (some-member j, h)) (λ w h. h .1) k
 
   -- a union over k below n
-  pub range : {W : ℕ → Set} {f : ℕ → Coef m} (n : ℕ) → ((k : ℕ) → k < n → Joined m (W k) (f k)) → Joined m (λ w. (k : ℕ) × (k < n) × W k w) (joins m f n)
+  pub range : {W : ℕ → Set m} {f : ℕ → Coef m} (n : ℕ) → ((k : ℕ) → k < n → Joined m (W k) (f k)) → Joined m (λ w. (k : ℕ) × (k < n) × W k w) (joins m f n)
   range zero j = empty (λ w h. let l : h .0 < 0 = h .1 in absurd (omega arith))
   range {W} {f} (suc n) j = same there back (or (range {W = W} n (λ k l. j k (omega arith))) (j n (omega arith)))
     where
@@ -190,7 +190,7 @@ module _ (m : Model) (laws : Laws m) where
       back w h = elim (ℕ-discrete (h .0) n) [ yes e ↦ inr (subst (λ k. W k w) e (h .2)) | no e ↦ inl (h .0, omega (arith, h .1, e), h .2) ]
 
   -- a union over a list
-  pub over-list : {Y : Type 0} {W : Y → Set} {f : Y → Coef m} (ys : List Y) → ((y : Y) → Joined m (W y) (f y)) → Joined m (λ w. (y : Y) × Among y ys × W y w) (joins-over m f ys)
+  pub over-list : {Y : Type 0} {W : Y → Set m} {f : Y → Coef m} (ys : List Y) → ((y : Y) → Joined m (W y) (f y)) → Joined m (λ w. (y : Y) × Among y ys × W y w) (joins-over m f ys)
   over-list [] j = empty (λ w h. List·Memᴰ·not-nil (h .1))
   over-list {Y} {W} (y ∷ ys) j = same there (λ w h. back w h (List·Memᴰ·cases-cons (h .1))) (or (j y) (over-list {W = W} ys j))
     where
@@ -203,10 +203,10 @@ module _ (m : Model) (laws : Laws m) where
       back w h (inr t) = inr (h .0, t, h .2)
 
   -- each piece of a range is below the join of the range
-  pub joins-above : (f : ℕ → Coef m) (k n : ℕ) → k < n → Below (f k) (joins m f n)
+  pub joins-above : (f : ℕ → Coef m) (k n : ℕ) → k < n → Below m (f k) (joins m f n)
   joins-above f k zero l = absurd (omega arith)
   joins-above f k (suc n) l =
       elim (ℕ-discrete k n) [
-        | yes e ↦ subst (λ x. Below (f x) (join m (joins m f n) (f n))) (sym e) (below-second (joins m f n) (f n))
+        | yes e ↦ subst (λ x. Below m (f x) (join m (joins m f n) (f n))) (sym e) (below-second (joins m f n) (f n))
         | no e ↦ below-trans (f k) (joins m f n) (join m (joins m f n) (f n)) (joins-above f k n (omega arith)) (below-first (joins m f n) (f n))
       ]

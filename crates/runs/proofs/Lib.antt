@@ -2,3 +2,6 @@ pub mod Joined
 pub mod Ticks
 pub mod Filled
 pub mod Beginnings
+pub mod Forms
+pub mod Weights
+pub mod Tied
