@@ -5,3 +5,4 @@ pub mod Beginnings
 pub mod Forms
 pub mod Weights
 pub mod Tied
+pub mod Beside
