@@ -6,3 +6,5 @@ pub mod Forms
 pub mod Weights
 pub mod Tied
 pub mod Beside
+pub mod Walks
+pub mod EachKind

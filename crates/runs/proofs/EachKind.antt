@@ -1,0 +1,81 @@
+-- The joined weights of each kind of plan, from those of its pieces.
+use mathlib.Core.Path.{_≡_, refl, sym, ap, subst, _∙_}
+use mathlib.Core.Logic.{_↔_, _≢_}
+use mathlib.Core.Bool.{Bool, true}
+use mathlib.Core.List.{List, [], _∷_}
+use Prim.Native.Nat.{ℕ, zero, suc}
+use native.Mathlib.Omega.{arith}
+use lib.ListN.{length}
+use Rattle.std.specs.declared.option.Option.the-variants.{None, Some}
+use Rattle.algebra.specs.Model.{Model, Laws}
+use Rattle.algebra.specs.Coefficients.{Coef, join, add}
+use Rattle.runs.specs.Plan.{Arc, Plan, node, pause, table, choice, sequence, loop, fork, abort}
+use Rattle.runs.specs.Runs.{End, paused, left, Ticks, Runs}
+use Rattle.runs.specs.Joined.{Joined}
+use Rattle.runs.specs.Weights.{weight-at, Weighs, Rows}
+use Rattle.runs.proofs.Filled.{filled}
+use Rattle.runs.proofs.Joined.{empty, one}
+use Rattle.runs.proofs.Forms.{Reached, never, at-first, at-second, table-row, tied-row, sequence-pauses, Starts, fork-pauses, fork-leaves, abort-leaves}
+use Rattle.runs.proofs.Weights.{Row, either-row}
+use Rattle.runs.proofs.Tied.{tied, sequenced-pauses, looped-pauses, looped-leaves}
+use Rattle.runs.proofs.Beside.{forked-pauses, forked-leaves, abreast, aborted-leaves}
+use Rattle.runs.proofs.Walks.{table-walks}
+
+module _ (m : Model) (laws : Laws m) {X : Type 0} (weigh : X → m .Carrier) where
+  -- a single run, at its last tick
+  lone : (us : Ticks X) (n : ℕ) (w : m .Carrier) → length us ≡ suc n → weight-at m weigh us n ≡ w → Joined m (Weighs m weigh (λ ts. ts ≡ us) n) (Some w)
+  lone us n w l e =
+      one m laws (record { run = us; of-set = refl; long = l; weighs = e })
+      (λ v h. sym (h .weighs) ∙ ap (λ ts. weight-at m weigh ts n) (h .of-set) ∙ e)
+
+  -- and at any other tick
+  elsewhere : (us : Ticks X) (n : ℕ) → length us ≢ suc n → Joined m (Weighs m weigh (λ ts. ts ≡ us) n) None
+  elsewhere us n l = empty m laws (λ v h. l (sym (ap length (h .of-set)) ∙ h .long))
+
+  one-tick : (x : X) → Row m weigh (λ ts. ts ≡ (x ∷ []) ∷ []) (at-first m (weigh x))
+  one-tick x zero = lone ((x ∷ []) ∷ []) 0 (weigh x) refl (laws .add-unit (weigh x))
+  one-tick x (suc n) = elsewhere ((x ∷ []) ∷ []) (suc n) (omega arith)
+
+  two-ticks : (x : X) → Row m weigh (λ ts. ts ≡ (x ∷ []) ∷ [] ∷ []) (at-second m)
+  two-ticks x zero = elsewhere ((x ∷ []) ∷ [] ∷ []) 0 (omega arith)
+  two-ticks x (suc zero) = lone ((x ∷ []) ∷ [] ∷ []) 1 (m .unit) refl refl
+  two-ticks x (suc (suc n)) = elsewhere ((x ∷ []) ∷ [] ∷ []) (suc (suc n)) (omega arith)
+
+  pub node-rows : (x : X) → Rows m weigh (node x) (never m) (at-first m (weigh x))
+  node-rows x = record { pauses = λ n. empty m laws (λ w h. h .of-set); leaves = one-tick x }
+
+  pub pause-rows : (x : X) → Rows m weigh (pause x) (at-first m (weigh x)) (at-second m)
+  pause-rows x = record { pauses = one-tick x; leaves = two-ticks x }
+
+  pub table-rows : (arcs : List (Arc X)) (R : ℕ → ℕ → Bool) → ((n s : ℕ) → (R n s ≡ true) ↔ Reached arcs n s)
+      → Rows m weigh (table arcs) (table-row m weigh R arcs paused) (table-row m weigh R arcs left)
+  table-rows arcs R tells = record { pauses = table-walks m laws weigh arcs R tells paused; leaves = table-walks m laws weigh arcs R tells left }
+
+  pub loop-rows : {a : Plan X} {p e S : ℕ → Coef m} → Rows m weigh a p e → e 0 ≡ None → Starts m e S → Rows m weigh (loop a) (tied-row m S p) (never m)
+  loop-rows {a} r no-instant s = record {
+    pauses = looped-pauses m laws weigh (Runs a) (filled a paused) (filled a left) (r .pauses) (r .leaves) no-instant s;
+    leaves = looped-leaves m laws weigh (Runs a);
+  }
+
+  module _ {a b : Plan X} {ap′ ae bp be : ℕ → Coef m} (r : Rows m weigh a ap′ ae) (s : Rows m weigh b bp be) where
+    pub choice-rows : Rows m weigh (choice a b) (λ n. join m (ap′ n) (bp n)) (λ n. join m (ae n) (be n))
+    choice-rows = record { pauses = either-row m laws weigh (r .pauses) (s .pauses); leaves = either-row m laws weigh (r .leaves) (s .leaves) }
+
+    pub sequence-rows : Rows m weigh (sequence a b) (sequence-pauses m ap′ ae bp) (tied-row m ae be)
+    sequence-rows = record {
+      pauses = sequenced-pauses m laws weigh (Runs a) (Runs b) (filled a left) (filled b paused) (r .pauses) (r .leaves) (s .pauses);
+      leaves = tied m laws weigh (filled a left) (filled b left) (r .leaves) (s .leaves);
+    }
+
+    pub fork-rows : Rows m weigh (fork a b) (fork-pauses m ap′ ae bp be) (fork-leaves m ae be)
+    fork-rows = record {
+      pauses = forked-pauses m laws weigh (Runs a) (Runs b) (filled a left) (filled b left) (r .pauses) (r .leaves) (s .pauses) (s .leaves);
+      leaves = forked-leaves m laws weigh (Runs a) (Runs b) (filled a left) (filled b left) (r .leaves) (s .leaves);
+    }
+
+    -- a over b
+    pub abort-rows : Rows m weigh (abort a b) (λ n. add m (ap′ n) (bp n)) (abort-leaves m ap′ ae bp be)
+    abort-rows = record {
+      pauses = abreast m laws weigh (r .pauses) (s .pauses);
+      leaves = aborted-leaves m laws weigh (Runs a) (Runs b) (filled b paused) (r .pauses) (r .leaves) (s .pauses) (s .leaves);
+    }
