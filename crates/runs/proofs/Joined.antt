@@ -86,6 +86,11 @@ module _ (m : Model) (laws : Laws m) where
       go [] e = let z : _≡_ {A = ℕ} 0 1 = cc in absurd (omega arith)
       go (w ∷ ws) e = w
 
+  -- no member: absent
+  pub absent : {W : Set m} {c : Coef m} → ((w : m .Carrier) → W w → ⊥) → Joined m W c → c ≡ None
+  absent {c = None} no-member j = refl
+  absent {c = Some x} no-member j = let h = some-member j in absurd (no-member (h .0) (h .1))
+
   pub one : {W : Set m} {v : m .Carrier} → W v → ((w : m .Carrier) → W w → w ≡ v) → Joined m W (Some v)
   one {W} {v} h only = record {
     upper = λ w k. ap (λ x. Some (m .join x v)) (only w k) ∙ ap Some (laws .join-self v);
@@ -102,13 +107,13 @@ module _ (m : Model) (laws : Laws m) where
   total-map f [] = refl
   total-map f (v ∷ vs) = ap (join m (Some (v .0))) (total-map f vs)
 
+  -- members that are below the join of a smaller set add nothing
+  pub widen : {V W : Set m} {c : Coef m} → ((w : m .Carrier) → V w → W w) → ((w : m .Carrier) → W w → Below m (Some w) c) → Joined m V c → Joined m W c
+  widen f up j = record { upper = up; members = map-members f (j .members); made = j .made ∙ sym (total-map f (j .members)) }
+
   -- same members, same joined weight
   pub same : {V W : Set m} {c : Coef m} → ((w : m .Carrier) → V w → W w) → ((w : m .Carrier) → W w → V w) → Joined m V c → Joined m W c
-  same f g j = record {
-    upper = λ w h. j .upper w (g w h);
-    members = map-members f (j .members);
-    made = j .made ∙ sym (total-map f (j .members));
-  }
+  same f g j = widen f (λ w h. j .upper w (g w h)) j
 
   total-append : {W : Set m} (vs ws : Members W) → total (vs ++ ws) ≡ join m (total vs) (total ws)
   total-append [] ws = refl
@@ -210,3 +215,25 @@ module _ (m : Model) (laws : Laws m) where
         | yes e ↦ subst (λ x. Below m (f x) (join m (joins m f n) (f n))) (sym e) (below-second (joins m f n) (f n))
         | no e ↦ below-trans (f k) (joins m f n) (join m (joins m f n) (f n)) (joins-above f k n (omega arith)) (below-first (joins m f n) (f n))
       ]
+
+  -- where the join of two is one of them, a joined weight is a member
+  module _ (chosen : (a b : m .Carrier) → (m .join a b ≡ a) ⊎ (m .join a b ≡ b)) where
+    total-member : {W : Set m} (ws : Members W) → (total ws ≡ None) ⊎ ((x : m .Carrier) × (total ws ≡ Some x) × W x)
+    total-member [] = inl refl
+    total-member {W} (w ∷ ws) =
+        elim (total-member ws) [
+          | inl e ↦ inr (w .0, ap (join m (Some (w .0))) e, w .1)
+          | inr h ↦
+              let e : total (w ∷ ws) ≡ Some (m .join (w .0) (h .0)) = ap (join m (Some (w .0))) (h .1) in
+              elim (chosen (w .0) (h .0)) [
+                | inl c ↦ inr (w .0, e ∙ ap Some c, w .1)
+                | inr c ↦ inr (h .0, e ∙ ap Some c, h .2)
+              ]
+        ]
+
+    pub member : {W : Set m} {x : m .Carrier} → Joined m W (Some x) → W x
+    member {W} {x} j =
+        elim (total-member (j .members)) [
+          | inl e ↦ let f : Some x ≡ None = j .made ∙ e in let z : _≡_ {A = ℕ} 0 1 = cc in absurd (omega arith)
+          | inr h ↦ let f : h .0 ≡ x = (cc (j .made, h .1)) in subst W f (h .2)
+        ]

@@ -8,3 +8,5 @@ pub mod Tied
 pub mod Beside
 pub mod Walks
 pub mod EachKind
+pub mod Earlier
+pub mod Figure

@@ -3,3 +3,4 @@ pub mod Runs
 pub mod Joined
 pub mod Weights
 pub mod Beginnings
+pub mod Figure

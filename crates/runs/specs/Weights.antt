@@ -3,6 +3,7 @@ use mathlib.Core.Path.{_≡_}
 use mathlib.Core.List.{List, [], _∷_}
 use Prim.Native.Nat.{ℕ, suc}
 use lib.ListN.{length, getD}
+use Rattle.algebra.specs.declared.label.Label.{Label}
 use Rattle.algebra.specs.Model.{Model}
 use Rattle.algebra.specs.Coefficients.{Coef}
 use Rattle.runs.specs.Plan.{Plan}
@@ -31,3 +32,9 @@ module _ (m : Model) {X : Type 0} (weigh : X → m .Carrier) where
   pub record Rows (plan : Plan X) (p e : ℕ → Coef m) : Type 0 where
     pub pauses : (n : ℕ) → Joined m (Weighs (Runs plan paused) n) (p n)
     pub leaves : (n : ℕ) → Joined m (Weighs (Runs plan left) n) (e n)
+
+-- a plan has one joined weight at each tick, paused and left
+abbrev pub RowsAreOne : Model → Type 0
+RowsAreOne m =
+    (plan : Plan Label) (p e p′ e′ : ℕ → Coef m) → Rows m (m .weigh) plan p e → Rows m (m .weigh) plan p′ e′
+    → (n : ℕ) → (p n ≡ p′ n) × (e n ≡ e′ n)
