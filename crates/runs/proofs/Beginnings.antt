@@ -10,12 +10,9 @@ use lib.Seq.{take-all}
 use Rattle.runs.specs.Plan.{Lead, state, out, Arc, Plan, node, pause, table, choice, sequence, loop, fork, abort}
 use Rattle.runs.specs.Runs.{End, paused, left, both, Ticks, Family, over, tie, Tied, chained, Abreast, noded, held, walked, tabled, chosen, sequenced, looped, Forked, Cut, aborted, Runs}
 use Rattle.runs.specs.Beginnings.{Begins}
+use Rattle.runs.proofs.Ends.{both-paused}
 use Rattle.runs.proofs.Ticks.{over-length, over-take, tie-length, tie-take-early, tie-take-late}
 use Rattle.runs.proofs.Filled.{Filled, chained-filled, filled}
-
-both-paused : (e : End) → both e paused ≡ paused
-both-paused paused = refl
-both-paused left = refl
 
 module _ {X : Type 0} where
   -- what holds of the beginnings of a first run, and of a first run tied to a beginning of a second, holds of the beginnings of both tied

@@ -17,9 +17,11 @@ use Rattle.runs.proofs.Filled.{filled}
 use Rattle.runs.proofs.Joined.{empty, one}
 use Rattle.runs.proofs.Forms.{Reached, never, at-first, at-second, table-row, tied-row, sequence-pauses, Starts, fork-pauses, fork-leaves, abort-leaves}
 use Rattle.runs.proofs.Weights.{Row, either-row}
-use Rattle.runs.proofs.Tied.{tied, sequenced-pauses, looped-pauses, looped-leaves}
-use Rattle.runs.proofs.Beside.{forked-pauses, forked-leaves, abreast, aborted-leaves}
-use Rattle.runs.proofs.Walks.{table-walks}
+use Rattle.runs.proofs.Tied.{tied}
+use Rattle.runs.proofs.Loop.{looped-pauses, looped-leaves}
+use Rattle.runs.proofs.Fork.{forked-pauses, forked-leaves}
+use Rattle.runs.proofs.Abort.{abreast, aborted-leaves}
+use Rattle.runs.proofs.Table.{table-walks}
 
 module _ (m : Model) (laws : Laws m) {X : Type 0} (weigh : X → m .Carrier) where
   -- a single run, at its last tick
@@ -63,7 +65,7 @@ module _ (m : Model) (laws : Laws m) {X : Type 0} (weigh : X → m .Carrier) whe
 
     pub sequence-rows : Rows m weigh (sequence a b) (sequence-pauses m ap′ ae bp) (tied-row m ae be)
     sequence-rows = record {
-      pauses = sequenced-pauses m laws weigh (Runs a) (Runs b) (filled a left) (filled b paused) (r .pauses) (r .leaves) (s .pauses);
+      pauses = either-row m laws weigh (r .pauses) (tied m laws weigh (filled a left) (filled b paused) (r .leaves) (s .pauses));
       leaves = tied m laws weigh (filled a left) (filled b left) (r .leaves) (s .leaves);
     }
 

@@ -63,13 +63,12 @@ module _ (m : Model) (laws : Laws m) where
   total-below [] c up = refl
   total-below (w ∷ ws) c up = below-both (Some (w .0)) (total ws) c (up (w .0) (w .1)) (total-below ws c up)
 
-  pub unique : {W : Set m} {c d : Coef m} → Joined m W c → Joined m W d → c ≡ d
-  unique {W} {c} {d} j k =
-      below-antisym c d (subst (λ x. Below m x d) (sym (j .made)) (total-below (j .members) d (k .upper))) (subst (λ x. Below m x c) (sym (k .made)) (total-below (k .members) c (j .upper)))
-
   -- a bound of every member bounds the joined weight
-  pub least : {W : Set m} {c : Coef m} → Joined m W c → (d : Coef m) → ((w : m .Carrier) → W w → Below m (Some w) d) → Below m c d
+  least : {W : Set m} {c : Coef m} → Joined m W c → (d : Coef m) → ((w : m .Carrier) → W w → Below m (Some w) d) → Below m c d
   least j d up = subst (λ x. Below m x d) (sym (j .made)) (total-below (j .members) d up)
+
+  pub unique : {W : Set m} {c d : Coef m} → Joined m W c → Joined m W d → c ≡ d
+  unique {W} {c} {d} j k = below-antisym c d (least j d (k .upper)) (least k c (j .upper))
 
   pub empty : {W : Set m} → ((w : m .Carrier) → W w → ⊥) → Joined m W None
   empty no-member = record { upper = λ w h. absurd (no-member w h); members = []; made = refl }

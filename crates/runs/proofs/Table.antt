@@ -14,6 +14,7 @@ use Rattle.runs.specs.Plan.{Lead, state, out, Arc}
 use Rattle.runs.specs.Runs.{End, paused, left, ended, Ticks, walked, tabled}
 use Rattle.runs.specs.Joined.{Joined}
 use Rattle.runs.specs.Weights.{weight, weight-at, Weighs}
+use Rattle.runs.proofs.Ends.{left-not-paused}
 use Rattle.runs.proofs.Joined.{empty, one, same, over-list}
 use Rattle.runs.proofs.Forms.{Reached, arc-cell, table-row}
 use Rattle.runs.proofs.Weights.{Row}
@@ -57,8 +58,8 @@ module _ (m : Model) (laws : Laws m) {X : Type 0} (weigh : X → m .Carrier) whe
   cell : (P : Type 0) (e : End) (b : Bool) (lead : Lead) (v : m .Carrier) → (b ≡ true) ↔ P → Joined m (λ w. P × (e ≡ ended lead) × (w ≡ v)) (arc-cell m e b lead v)
   cell P e false lead v d = empty m laws (λ w h. let t : false ≡ true = d .1 (h .0) in let z : _≡_ {A = ℕ} 0 1 = cc in omega arith)
   cell P paused true (state s) v d = one m laws (d .0 refl, refl, refl) (λ w h. h .2)
-  cell P paused true out v d = empty m laws (λ w h. let t : paused ≡ left = h .1 in let z : _≡_ {A = ℕ} 0 1 = cc in omega arith)
-  cell P left true (state s) v d = empty m laws (λ w h. let t : left ≡ paused = h .1 in let z : _≡_ {A = ℕ} 0 1 = cc in omega arith)
+  cell P paused true out v d = empty m laws (λ w h. left-not-paused (sym (h .1)))
+  cell P left true (state s) v d = empty m laws (λ w h. left-not-paused (h .1))
   cell P left true out v d = one m laws (d .0 refl, refl, refl) (λ w h. h .2)
 
   -- for any R that tells which states are reached
