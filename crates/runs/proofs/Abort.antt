@@ -1,7 +1,7 @@
 -- The joined weights of runs abreast, and of aborts.
 use mathlib.Core.Path.{_≡_, refl, sym, ap, _∙_}
 use mathlib.Core.Logic.{_⊎_, inl, inr}
-use Prim.Native.Nat.{ℕ, zero, suc, _≤_}
+use Prim.Native.Nat.{ℕ, zero, suc}
 use native.Mathlib.Omega.{arith}
 use lib.ListN.{length}
 use Rattle.algebra.specs.Model.{Model, Laws}
@@ -103,9 +103,9 @@ module _ (m : Model) (laws : Laws m) {X : Type 0} (weigh : X → m .Carrier) whe
         let t = abreast-back (H paused) (A left) n w h in
         record { run = t .run; of-set = inr (inr (t .of-set)); long = t .long; weighs = t .weighs }
 
-  pub aborted-leaves : (H A : Family X) {hp he ap ae : ℕ → Coef m} → Filled (A paused)
-      → Row m weigh (H paused) hp → Row m weigh (H left) he → Row m weigh (A paused) ap → Row m weigh (A left) ae
-      → Row m weigh (aborted H A left) (abort-leaves m hp he ap ae)
+  pub aborted-leaves : (H A : Family X) {ph eh pa ea : ℕ → Coef m} → Filled (A paused)
+      → Row m weigh (H paused) ph → Row m weigh (H left) eh → Row m weigh (A paused) pa → Row m weigh (A left) ea
+      → Row m weigh (aborted H A left) (abort-leaves m ph eh pa ea)
   aborted-leaves H A fa hp he p e n =
       same m laws (abort-back H A fa n) (λ w h. abort-there H A fa n w (h .run) (h .of-set) (h .long) (h .weighs))
       (or m laws (sum m laws (he n) (still p n)) (sum m laws (hp n) (e n)))

@@ -8,7 +8,7 @@ use native.Mathlib.Decide.{decLt}
 use lib.ListN.{length, take, length-take}
 use lib.Seq.{take-all}
 use Rattle.runs.specs.Plan.{Lead, state, out, Arc, Plan, node, pause, table, choice, sequence, loop, fork, abort}
-use Rattle.runs.specs.Runs.{End, paused, left, both, Ticks, Family, over, tie, Tied, chained, Abreast, noded, held, walked, tabled, chosen, sequenced, looped, Forked, Cut, aborted, Runs}
+use Rattle.runs.specs.Runs.{End, paused, left, both, Ticks, Family, over, tie, Tied, chained, Abreast, noded, rested, walked, tabled, chosen, sequenced, looped, Forked, aborted, Runs}
 use Rattle.runs.specs.Beginnings.{Begins}
 use Rattle.runs.proofs.Ends.{both-paused}
 use Rattle.runs.proofs.Ticks.{over-length, over-take, tie-length, tie-take-early, tie-take-late}
@@ -178,13 +178,13 @@ module _ {X : Type 0} where
   noded-begins x paused ts h j p l = absurd h
   noded-begins x left ts h j p l = absurd (omega (arith, ap length h))
 
-  held-begins : (x : X) → Begins (held x)
-  held-begins x paused ts h j p l = absurd (omega (arith, ap length h))
-  held-begins x left ts h j p l = let one : j ≡ 1 = omega (arith, ap length h) in ap (λ i. take i ts) one ∙ ap (take 1) h
+  rested-begins : (x : X) → Begins (rested x)
+  rested-begins x paused ts h j p l = absurd (omega (arith, ap length h))
+  rested-begins x left ts h j p l = let one : j ≡ 1 = omega (arith, ap length h) in ap (λ i. take i ts) one ∙ ap (take 1) h
 
   pub begins : (plan : Plan X) → Begins (Runs plan)
   begins (node x) = noded-begins x
-  begins (pause x) = held-begins x
+  begins (pause x) = rested-begins x
   begins (table arcs) = tabled-begins arcs
   begins (choice a b) = chosen-begins (Runs a) (Runs b) (begins a) (begins b)
   begins (sequence a b) = sequenced-begins (Runs a) (Runs b) (filled a) (filled b) (begins a) (begins b)

@@ -10,9 +10,9 @@ use Rattle.std.specs.declared.option.Option.the-variants.{None, Some}
 use Rattle.algebra.specs.Model.{Model, Laws}
 use Rattle.algebra.specs.Coefficients.{Coef, join, add}
 use Rattle.runs.specs.Plan.{Arc, Plan, node, pause, table, choice, sequence, loop, fork, abort}
-use Rattle.runs.specs.Runs.{End, paused, left, Ticks, Runs}
+use Rattle.runs.specs.Runs.{paused, left, Ticks, Runs}
 use Rattle.runs.specs.Joined.{Joined}
-use Rattle.runs.specs.Weights.{weight-at, Weighs, Rows}
+use Rattle.runs.specs.Weights.{weight-at, Weighs, JoinedWeight, Rows}
 use Rattle.runs.proofs.Filled.{filled}
 use Rattle.runs.proofs.Joined.{empty, one}
 use Rattle.runs.proofs.Forms.{Reached, never, at-first, at-second, table-row, tied-row, sequence-pauses, Starts, fork-pauses, fork-leaves, abort-leaves}
@@ -24,6 +24,13 @@ use Rattle.runs.proofs.Abort.{abreast, aborted-leaves}
 use Rattle.runs.proofs.Table.{table-walks}
 
 module _ (m : Model) (laws : Laws m) {X : Type 0} (weigh : X → m .Carrier) where
+  -- equal rows are the same plan's
+  pub same-rows : {plan : Plan X} {p e p′ e′ : ℕ → Coef m} → Rows m weigh plan p e → ((n : ℕ) → p n ≡ p′ n) → ((n : ℕ) → e n ≡ e′ n) → Rows m weigh plan p′ e′
+  same-rows {plan} r p e = record {
+    pauses = λ n. subst (JoinedWeight m weigh plan paused n) (p n) (r .pauses n);
+    leaves = λ n. subst (JoinedWeight m weigh plan left n) (e n) (r .leaves n);
+  }
+
   -- a single run, at its last tick
   lone : (us : Ticks X) (n : ℕ) (w : m .Carrier) → length us ≡ suc n → weight-at m weigh us n ≡ w → Joined m (Weighs m weigh (λ ts. ts ≡ us) n) (Some w)
   lone us n w l e =
@@ -59,24 +66,24 @@ module _ (m : Model) (laws : Laws m) {X : Type 0} (weigh : X → m .Carrier) whe
     leaves = looped-leaves m laws weigh (Runs a);
   }
 
-  module _ {a b : Plan X} {ap′ ae bp be : ℕ → Coef m} (r : Rows m weigh a ap′ ae) (s : Rows m weigh b bp be) where
-    pub choice-rows : Rows m weigh (choice a b) (λ n. join m (ap′ n) (bp n)) (λ n. join m (ae n) (be n))
+  module _ {a b : Plan X} {pa ea pb eb : ℕ → Coef m} (r : Rows m weigh a pa ea) (s : Rows m weigh b pb eb) where
+    pub choice-rows : Rows m weigh (choice a b) (λ n. join m (pa n) (pb n)) (λ n. join m (ea n) (eb n))
     choice-rows = record { pauses = either-row m laws weigh (r .pauses) (s .pauses); leaves = either-row m laws weigh (r .leaves) (s .leaves) }
 
-    pub sequence-rows : Rows m weigh (sequence a b) (sequence-pauses m ap′ ae bp) (tied-row m ae be)
+    pub sequence-rows : Rows m weigh (sequence a b) (sequence-pauses m pa ea pb) (tied-row m ea eb)
     sequence-rows = record {
       pauses = either-row m laws weigh (r .pauses) (tied m laws weigh (filled a left) (filled b paused) (r .leaves) (s .pauses));
       leaves = tied m laws weigh (filled a left) (filled b left) (r .leaves) (s .leaves);
     }
 
-    pub fork-rows : Rows m weigh (fork a b) (fork-pauses m ap′ ae bp be) (fork-leaves m ae be)
+    pub fork-rows : Rows m weigh (fork a b) (fork-pauses m pa ea pb eb) (fork-leaves m ea eb)
     fork-rows = record {
       pauses = forked-pauses m laws weigh (Runs a) (Runs b) (filled a left) (filled b left) (r .pauses) (r .leaves) (s .pauses) (s .leaves);
       leaves = forked-leaves m laws weigh (Runs a) (Runs b) (filled a left) (filled b left) (r .leaves) (s .leaves);
     }
 
     -- a over b
-    pub abort-rows : Rows m weigh (abort a b) (λ n. add m (ap′ n) (bp n)) (abort-leaves m ap′ ae bp be)
+    pub abort-rows : Rows m weigh (abort a b) (λ n. add m (pa n) (pb n)) (abort-leaves m pa ea pb eb)
     abort-rows = record {
       pauses = abreast m laws weigh (r .pauses) (s .pauses);
       leaves = aborted-leaves m laws weigh (Runs a) (Runs b) (filled b paused) (r .pauses) (r .leaves) (s .pauses) (s .leaves);

@@ -1,7 +1,7 @@
 -- The weight of a run at any tick is the weight of a run at its last; once pause is absent, both rows stay absent.
-use mathlib.Core.Path.{_≡_, refl, sym, ap, subst, _∙_}
+use mathlib.Core.Path.{_≡_, refl, ap, subst}
 use mathlib.Core.Logic.{_⊎_, inl, inr}
-use mathlib.Core.List.{List, []}
+use mathlib.Core.List.{[]}
 use Prim.Native.Nat.{ℕ, suc, _<_}
 use native.Mathlib.Omega.{arith}
 use native.Mathlib.Decide.{decLt}
@@ -12,8 +12,7 @@ use Rattle.algebra.specs.Model.{Model, Laws}
 use Rattle.algebra.specs.Coefficients.{Coef}
 use Rattle.runs.specs.Plan.{Plan}
 use Rattle.runs.specs.Runs.{End, paused, left, Ticks, Runs}
-use Rattle.runs.specs.Joined.{Joined}
-use Rattle.runs.specs.Weights.{weight, weight-at, Weighs, Rows}
+use Rattle.runs.specs.Weights.{weight, weight-at, Weighs, JoinedWeight, Rows}
 use Rattle.runs.proofs.Joined.{none, absent}
 use Rattle.runs.proofs.Beginnings.{begins}
 
@@ -38,7 +37,7 @@ module _ (m : Model) (laws : Laws m) {X : Type 0} (weigh : X → m .Carrier) whe
     -- no paused run of n + 1 ticks: no longer run
     no-longer : (n k : ℕ) → n < k → p n ≡ None → (f : End) (w : m .Carrier) → Weighs m weigh (Runs plan f) k w → ⊥
     no-longer n k l gone f w h =
-        none m laws (subst (Joined m (Weighs m weigh (Runs plan paused) n)) gone (r .pauses n)) (paused-there plan f (h .run) (h .of-set) n (omega (arith, h .long)))
+        none m laws (subst (JoinedWeight m weigh plan paused n) gone (r .pauses n)) (paused-there plan f (h .run) (h .of-set) n (omega (arith, h .long)))
 
     -- once pause is absent, both rows stay absent
     pub absent-after : (n k : ℕ) → n < k → p n ≡ None → (p k ≡ None) × (e k ≡ None)

@@ -1,17 +1,17 @@
 -- The figure covers every tick of every run, and the first tick that reaches it.
-use mathlib.Core.Path.{_≡_, refl, sym, ap, subst, _∙_}
+use mathlib.Core.Path.{_≡_, sym, ap, subst, _∙_}
 use mathlib.Core.Logic.{_⊎_, inl, inr, _≢_}
 use Prim.Native.Nat.{ℕ, _<_}
 use native.Mathlib.Omega.{arith}
-use Rattle.std.specs.declared.option.Option.the-variants.{None, Some}
+use Rattle.std.specs.declared.option.Option.the-variants.{Some}
 use Rattle.algebra.specs.Model.{Model, Laws}
 use Rattle.algebra.specs.Coefficients.{Coef, join}
 use Rattle.runs.specs.Plan.{Plan}
 use Rattle.runs.specs.Runs.{End, paused, left, Runs}
-use Rattle.runs.specs.Joined.{Joined, joins}
+use Rattle.runs.specs.Joined.{Joined}
 use Rattle.runs.specs.Weights.{weight-at, Weighs, Rows}
-use Rattle.runs.specs.Figure.{Betters, Repeats, figure, Occurs, Covers, FirstAt}
-use Rattle.runs.proofs.Joined.{Below, below-trans, below-first, below-second, below-antisym, widen, or, range, joins-above, member}
+use Rattle.runs.specs.Figure.{Repeats, figure, Occurs, Covers, FirstAt}
+use Rattle.runs.proofs.Joined.{Below, below-trans, below-antisym, widen, or, range, joins-above, member}
 use Rattle.runs.proofs.Earlier.{last-there}
 
 module _ (m : Model) (laws : Laws m) {X : Type 0} (weigh : X → m .Carrier) {plan : Plan X} {p e : ℕ → Coef m} (r : Rows m weigh plan p e) where

@@ -1,11 +1,11 @@
 -- Every run has a tick.
-use mathlib.Core.Path.{_≡_, ap}
+use mathlib.Core.Path.{ap}
 use mathlib.Core.Logic.{inl, inr}
 use Prim.Native.Nat.{ℕ, zero, suc, _<_}
 use native.Mathlib.Omega.{arith}
 use lib.ListN.{length}
 use Rattle.runs.specs.Plan.{Plan, node, pause, table, choice, sequence, loop, fork, abort}
-use Rattle.runs.specs.Runs.{End, paused, left, Ticks, Family, Tied, chained, Abreast, Runs}
+use Rattle.runs.specs.Runs.{End, paused, left, Ticks, Tied, chained, Abreast, Runs}
 use Rattle.runs.proofs.Ticks.{over-length, tie-length}
 
 module _ {X : Type 0} where

@@ -172,9 +172,9 @@ module _ (m : Model) (laws : Laws m) {X : Type 0} (weigh : X → m .Carrier) whe
         forked-run A B left left left (x .run) (y .run) n (h .0) (h .1) w (x .of-set) (y .of-set) left-not-paused left-not-paused refl
         (omega (arith, over-length (x .run) (y .run), x .short, y .long)) (x .weighs) (y .weighs) (h .4)
 
-  pub forked-pauses : (A B : Family X) {ap ae bp be : ℕ → Coef m} → Filled (A left) → Filled (B left)
-      → Row m weigh (A paused) ap → Row m weigh (A left) ae → Row m weigh (B paused) bp → Row m weigh (B left) be
-      → Row m weigh (Forked A B paused) (fork-pauses m ap ae bp be)
+  pub forked-pauses : (A B : Family X) {pa ea pb eb : ℕ → Coef m} → Filled (A left) → Filled (B left)
+      → Row m weigh (A paused) pa → Row m weigh (A left) ea → Row m weigh (B paused) pb → Row m weigh (B left) eb
+      → Row m weigh (Forked A B paused) (fork-pauses m pa ea pb eb)
   forked-pauses A B fa fb p e q f n =
       same m laws (fork-pauses-back A B n) there (or m laws (sum m laws (p n) (or m laws (q n) (within fb f n))) (sum m laws (within fa e n) (q n)))
     where
@@ -184,8 +184,8 @@ module _ (m : Model) (laws : Laws m) {X : Type 0} (weigh : X → m .Carrier) whe
           fork-pauses-there A B n w (r .first-end) (r .second-end) (r .first) (r .second) (r .of-first) (r .of-second) (r .first-lasts) (r .second-lasts)
           (r .has-ended) (sym (ap length (r .made)) ∙ h .long) (over-sum m laws weigh (h .run) (r .first) (r .second) n w (r .made) (h .weighs))
 
-  pub forked-leaves : (A B : Family X) {ae be : ℕ → Coef m} → Filled (A left) → Filled (B left)
-      → Row m weigh (A left) ae → Row m weigh (B left) be → Row m weigh (Forked A B left) (fork-leaves m ae be)
+  pub forked-leaves : (A B : Family X) {ea eb : ℕ → Coef m} → Filled (A left) → Filled (B left)
+      → Row m weigh (A left) ea → Row m weigh (B left) eb → Row m weigh (Forked A B left) (fork-leaves m ea eb)
   forked-leaves A B fa fb e f n =
       same m laws (fork-leaves-back A B n) there (or m laws (sum m laws (e n) (within fb f n)) (sum m laws (gone e n) (f n)))
     where

@@ -34,8 +34,8 @@ module _ (m : Model) where
   abbrev pub tied-row : (a b : ℕ → Coef m) → ℕ → Coef m
   tied-row a b n = join m (add m (a n) (b 0)) (joins m (λ k. gate m (a (n - suc k)) (b (suc k))) n)
 
-  abbrev pub sequence-pauses : (ap ae bp : ℕ → Coef m) → ℕ → Coef m
-  sequence-pauses ap ae bp n = join m (ap n) (tied-row ae bp n)
+  abbrev pub sequence-pauses : (pa ea pb : ℕ → Coef m) → ℕ → Coef m
+  sequence-pauses pa ea pb n = join m (pa n) (tied-row ea pb n)
 
   -- S n: what the runs before one that begins at tick n leave in that tick; e 0 is absent
   pub record Starts (e S : ℕ → Coef m) : Type 0 where
@@ -47,20 +47,20 @@ module _ (m : Model) where
   mark e zero = None
   mark e (suc n) = gate m (join m (mark e n) (e n)) (Some (m .unit))
 
-  abbrev pub fork-pauses : (ap ae bp be : ℕ → Coef m) → ℕ → Coef m
-  fork-pauses ap ae bp be n =
-      join m (add m (ap n) (join m (bp n) (join m (be n) (mark be n)))) (add m (join m (ae n) (mark ae n)) (bp n))
+  abbrev pub fork-pauses : (pa ea pb eb : ℕ → Coef m) → ℕ → Coef m
+  fork-pauses pa ea pb eb n =
+      join m (add m (pa n) (join m (pb n) (join m (eb n) (mark eb n)))) (add m (join m (ea n) (mark ea n)) (pb n))
 
-  abbrev pub fork-leaves : (ae be : ℕ → Coef m) → ℕ → Coef m
-  fork-leaves ae be n = join m (add m (ae n) (join m (be n) (mark be n))) (add m (mark ae n) (be n))
+  abbrev pub fork-leaves : (ea eb : ℕ → Coef m) → ℕ → Coef m
+  fork-leaves ea eb n = join m (add m (ea n) (join m (eb n) (mark eb n))) (add m (mark ea n) (eb n))
 
   -- the unit where a run is still there when tick n begins
   abbrev pub alive : (p : ℕ → Coef m) → ℕ → Coef m
   alive p zero = Some (m .unit)
   alive p (suc n) = gate m (p n) (Some (m .unit))
 
-  abbrev pub abort-leaves : (hp he ap ae : ℕ → Coef m) → ℕ → Coef m
-  abort-leaves hp he ap ae n = join m (add m (he n) (alive ap n)) (add m (hp n) (ae n))
+  abbrev pub abort-leaves : (ph eh pa ea : ℕ → Coef m) → ℕ → Coef m
+  abort-leaves ph eh pa ea n = join m (add m (eh n) (alive pa n)) (add m (ph n) (ea n))
 
   -- what an arc adds to the row of an end, where its state is reached
   abbrev pub arc-cell : End → Bool → Lead → m .Carrier → Coef m

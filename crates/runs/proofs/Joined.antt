@@ -16,6 +16,10 @@ abbrev pub joins-over : (m : Model) {Y : Type 0} → (Y → Coef m) → List Y �
 joins-over m f [] = None
 joins-over m f (y ∷ ys) = join m (f y) (joins-over m f ys)
 
+pub joins-same : (m : Model) (f g : ℕ → Coef m) (n : ℕ) → ((k : ℕ) → k < n → f k ≡ g k) → joins m f n ≡ joins m g n
+joins-same m f g zero h = refl
+joins-same m f g (suc n) h = ap (λ c. join m c (f n)) (joins-same m f g n (λ k l. h k (omega arith))) ∙ ap (join m (joins m g n)) (h n (omega arith))
+
 -- b where a is present, else absent
 abbrev pub gate : (m : Model) → Coef m → Coef m → Coef m
 gate m None b = None

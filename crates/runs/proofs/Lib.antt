@@ -5,6 +5,7 @@ pub mod Filled
 pub mod Beginnings
 pub mod Forms
 pub mod Weights
+pub mod Starts
 pub mod Tied
 pub mod Loop
 pub mod Fork

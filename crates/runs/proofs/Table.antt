@@ -3,17 +3,16 @@ use mathlib.Core.Path.{_≡_, refl, sym, ap, subst, _∙_}
 use mathlib.Core.Logic.{_↔_}
 use mathlib.Core.Bool.{Bool, true, false}
 use mathlib.Core.List.{List, [], _∷_, _++_, List·Memᴰ as Among}
-use Prim.Native.Nat.{ℕ, zero, suc, _+_, _<_}
+use Prim.Native.Nat.{ℕ, zero, suc, _+_}
 use native.Mathlib.Omega.{arith}
 use lib.ListN.{length, getD, length-append}
 use lib.Seq.{getD-at}
 use Rattle.std.proofs.shelf.Lists.{append-assoc}
 use Rattle.algebra.specs.Model.{Model, Laws}
-use Rattle.algebra.specs.Coefficients.{Coef}
 use Rattle.runs.specs.Plan.{Lead, state, out, Arc}
 use Rattle.runs.specs.Runs.{End, paused, left, ended, Ticks, walked, tabled}
 use Rattle.runs.specs.Joined.{Joined}
-use Rattle.runs.specs.Weights.{weight, weight-at, Weighs}
+use Rattle.runs.specs.Weights.{weight, Weighs}
 use Rattle.runs.proofs.Ends.{left-not-paused}
 use Rattle.runs.proofs.Joined.{empty, one, same, over-list}
 use Rattle.runs.proofs.Forms.{Reached, arc-cell, table-row}

@@ -1,22 +1,21 @@
 -- The joined weights of tied runs.
-use mathlib.Core.Path.{_≡_, refl, sym, ap, subst, _∙_}
+use mathlib.Core.Path.{_≡_, refl, sym, ap, _∙_}
 use mathlib.Core.Logic.{_⊎_, inl, inr}
-use mathlib.Core.List.{List, [], _∷_}
-use Prim.Native.Nat.{ℕ, zero, suc, _+_, _-_, _≤_, _<_}
+use mathlib.Core.List.{[]}
+use Prim.Native.Nat.{ℕ, suc, _-_, _<_}
 use native.Mathlib.Omega.{arith}
 use native.Mathlib.Decide.{ℕ-discrete}
 use lib.ListN.{length, getD}
 use Rattle.algebra.specs.Model.{Model, Laws}
 use Rattle.algebra.specs.Coefficients.{Coef}
-use Rattle.std.specs.declared.option.Option.the-variants.{None, Some}
-use Rattle.runs.specs.Runs.{End, paused, left, Ticks, Family, tie, Tied, chained, sequenced, looped}
+use Rattle.runs.specs.Runs.{Ticks, tie, Tied}
 use Rattle.runs.specs.Joined.{Joined, joins}
 use Rattle.runs.specs.Weights.{weight, weight-at, Weighs}
-use Rattle.runs.proofs.Ticks.{tie-length, tie-seam, tie-past, tie-empty}
-use Rattle.runs.proofs.Filled.{Filled, chained-filled}
-use Rattle.runs.proofs.Joined.{gate, Sum, Gated, none, empty, one, same, or, sum, gated, range}
-use Rattle.runs.proofs.Forms.{tied-row, sequence-pauses, never, Starts}
-use Rattle.runs.proofs.Weights.{Row, weighs-more, weight-append, same-row, either-row}
+use Rattle.runs.proofs.Ticks.{tie-length, tie-seam, tie-past}
+use Rattle.runs.proofs.Filled.{Filled}
+use Rattle.runs.proofs.Joined.{gate, Sum, Gated, same, or, sum, gated, range}
+use Rattle.runs.proofs.Forms.{tied-row}
+use Rattle.runs.proofs.Weights.{Row, weight-append}
 
 module _ (m : Model) {X : Type 0} (weigh : X → m .Carrier) (A B : Ticks X → Type 0) where
   -- the second run begins at tick n

@@ -70,9 +70,9 @@ module _ {X : Type 0} where
   noded x left ts = ts ≡ (x ∷ []) ∷ []
 
   -- one tick with its label, paused; also that tick and then an empty one, left
-  abbrev pub held : X → Family X
-  held x paused ts = ts ≡ (x ∷ []) ∷ []
-  held x left ts = ts ≡ (x ∷ []) ∷ [] ∷ []
+  abbrev pub rested : X → Family X
+  rested x paused ts = ts ≡ (x ∷ []) ∷ []
+  rested x left ts = ts ≡ (x ∷ []) ∷ [] ∷ []
 
   -- ticks that follow arcs, one a tick, from where an arc led
   abbrev pub walked : List (Arc X) → Lead → Family X
@@ -126,7 +126,7 @@ module _ {X : Type 0} where
 
   abbrev pub Runs : Plan X → Family X
   Runs (node x) = noded x
-  Runs (pause x) = held x
+  Runs (pause x) = rested x
   Runs (table arcs) = tabled arcs
   Runs (choice a b) = chosen (Runs a) (Runs b)
   Runs (sequence a b) = sequenced (Runs a) (Runs b)

@@ -28,10 +28,14 @@ module _ (m : Model) {X : Type 0} (weigh : X → m .Carrier) where
     pub long : length run ≡ suc n
     pub weighs : weight-at run n ≡ w
 
+  -- c is the joined weight of the plan at n: over all its runs of that end and of n + 1 ticks, their weights at tick n
+  abbrev pub JoinedWeight : Plan X → End → ℕ → Coef m → Type 0
+  JoinedWeight plan end n c = Joined m (Weighs (Runs plan end) n) c
+
   -- p and e are the joined weights of the plan at every tick, paused and left
   pub record Rows (plan : Plan X) (p e : ℕ → Coef m) : Type 0 where
-    pub pauses : (n : ℕ) → Joined m (Weighs (Runs plan paused) n) (p n)
-    pub leaves : (n : ℕ) → Joined m (Weighs (Runs plan left) n) (e n)
+    pub pauses : (n : ℕ) → JoinedWeight plan paused n (p n)
+    pub leaves : (n : ℕ) → JoinedWeight plan left n (e n)
 
 -- a plan has one joined weight at each tick, paused and left
 abbrev pub RowsAreOne : Model → Type 0
