@@ -110,7 +110,9 @@ module _ {X : Type 0} where
       made : take j ts ≡ over (take j xs) (take j ys)
       made = ap (take j) (f .made) ∙ over-take xs ys j
 
-      begun : (c d : End) → A c (take j xs) → B d (take j ys) → (c ≡ paused → length (take j ys) ≤ length (take j xs)) → (d ≡ paused → length (take j xs) ≤ length (take j ys)) → paused ≡ both c d → Forked A B paused (take j ts)
+      begun : (c d : End) → A c (take j xs) → B d (take j ys)
+          → (c ≡ paused → length (take j ys) ≤ length (take j xs)) → (d ≡ paused → length (take j xs) ≤ length (take j ys)) → paused ≡ both c d
+          → Forked A B paused (take j ts)
       begun c d x y lx ly ends = record {
         first-end = c;
         second-end = d;
@@ -129,21 +131,28 @@ module _ {X : Type 0} where
 
       go : End-of A xs (f .first-end) → End-of B ys (f .second-end) → Forked A B paused (take j ts)
       go x y =
+          let lx = length-take j xs in
+          let ly = length-take j ys in
+          let begin = begun (x .0) (y .0) (x .1) (y .1) in
           elim (x .2) [
             | inl k ↦
+                let ends : paused ≡ both (x .0) (y .0) = ap (λ c. both c (y .0)) (sym (k .1)) in
                 elim (y .2) [
-                  | inl i ↦ begun (x .0) (y .0) (x .1) (y .1) (λ q. omega (arith, length-take j xs, length-take j ys, k .0, i .0)) (λ q. omega (arith, length-take j xs, length-take j ys, k .0, i .0)) (ap (λ c. both c (y .0)) (sym (k .1)))
-                  | inr i ↦ begun (x .0) (y .0) (x .1) (y .1) (λ q. omega (arith, length-take j xs, length-take j ys, k .0, i .0)) (λ q. omega (arith, f .second-lasts (sym (i .1) ∙ q), k .0, i .0)) (ap (λ c. both c (y .0)) (sym (k .1)))
+                  | inl i ↦ begin (λ q. omega (arith, k .0, i .0)) (λ q. omega (arith, k .0, i .0)) ends
+                  | inr i ↦ begin (λ q. omega (arith, k .0, i .0)) (λ q. omega (arith, f .second-lasts (sym (i .1) ∙ q), k .0, i .0)) ends
                 ]
             | inr k ↦
                 elim (y .2) [
-                  | inl i ↦ begun (x .0) (y .0) (x .1) (y .1) (λ q. omega (arith, f .first-lasts (sym (k .1) ∙ q), k .0, i .0)) (λ q. omega (arith, length-take j xs, length-take j ys, k .0, i .0)) (sym (ap (both (x .0)) (i .1) ∙ both-paused (x .0)))
+                  | inl i ↦
+                      let ends : paused ≡ both (x .0) (y .0) = sym (ap (both (x .0)) (i .1) ∙ both-paused (x .0)) in
+                      begin (λ q. omega (arith, f .first-lasts (sym (k .1) ∙ q), k .0, i .0)) (λ q. omega (arith, k .0, i .0)) ends
                   | inr i ↦ absurd (omega (arith, over-length xs ys, long, k .0, i .0))
                 ]
           ]
 
   -- side by side, both cut short
-  abreast-made : (H A : Family X) (xs ys ts : Ticks X) → (j : ℕ) → H paused (take j xs) → A paused (take j ys) → ts ≡ over xs ys → length (take j xs) ≡ length (take j ys) → Abreast (H paused) (A paused) (take j ts)
+  abreast-made : (H A : Family X) (xs ys ts : Ticks X) → (j : ℕ) → H paused (take j xs) → A paused (take j ys)
+      → ts ≡ over xs ys → length (take j xs) ≡ length (take j ys) → Abreast (H paused) (A paused) (take j ts)
   abreast-made H A xs ys ts j x y made even = record {
     first = take j xs;
     second = take j ys;
@@ -153,7 +162,8 @@ module _ {X : Type 0} where
     made = ap (take j) made ∙ over-take xs ys j;
   }
 
-  abreast-begins : (H A : Family X) → Begins H → Begins A → (c d : End) (ts : Ticks X) → Abreast (H c) (A d) ts → (j : ℕ) → 0 < j → j < length ts → Abreast (H paused) (A paused) (take j ts)
+  abreast-begins : (H A : Family X) → Begins H → Begins A → (c d : End) (ts : Ticks X) → Abreast (H c) (A d) ts
+      → (j : ℕ) → 0 < j → j < length ts → Abreast (H paused) (A paused) (take j ts)
   abreast-begins H A h a c d ts t j p l =
       let len : length ts ≡ length (over (t .first) (t .second)) = ap length (t .made) in
       let o = over-length (t .first) (t .second) in

@@ -25,7 +25,8 @@ use Rattle.runs.proofs.Table.{table-walks}
 
 module _ (m : Model) (laws : Laws m) {X : Type 0} (weigh : X → m .Carrier) where
   -- equal rows are the same plan's
-  pub same-rows : {plan : Plan X} {p e p′ e′ : ℕ → Coef m} → Rows m weigh plan p e → ((n : ℕ) → p n ≡ p′ n) → ((n : ℕ) → e n ≡ e′ n) → Rows m weigh plan p′ e′
+  pub same-rows : {plan : Plan X} {p e p′ e′ : ℕ → Coef m} → Rows m weigh plan p e → ((n : ℕ) → p n ≡ p′ n) → ((n : ℕ) → e n ≡ e′ n)
+      → Rows m weigh plan p′ e′
   same-rows {plan} r p e = record {
     pauses = λ n. subst (JoinedWeight m weigh plan paused n) (p n) (r .pauses n);
     leaves = λ n. subst (JoinedWeight m weigh plan left n) (e n) (r .leaves n);

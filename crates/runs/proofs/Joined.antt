@@ -186,7 +186,8 @@ module _ (m : Model) (laws : Laws m) where
   gated {c = Some x} j k = same (λ w h. (some-member j, h)) (λ w h. h .1) k
 
   -- a union over k below n
-  pub range : {W : ℕ → Set m} {f : ℕ → Coef m} (n : ℕ) → ((k : ℕ) → k < n → Joined m (W k) (f k)) → Joined m (λ w. (k : ℕ) × (k < n) × W k w) (joins m f n)
+  pub range : {W : ℕ → Set m} {f : ℕ → Coef m} (n : ℕ) → ((k : ℕ) → k < n → Joined m (W k) (f k))
+      → Joined m (λ w. (k : ℕ) × (k < n) × W k w) (joins m f n)
   range zero j = empty (λ w h. let l : h .0 < 0 = h .1 in absurd (omega arith))
   range {W} {f} (suc n) j = same there back (or (range {W = W} n (λ k l. j k (omega arith))) (j n (omega arith)))
     where
@@ -198,7 +199,8 @@ module _ (m : Model) (laws : Laws m) where
       back w h = elim (ℕ-discrete (h .0) n) [ yes e ↦ inr (subst (λ k. W k w) e (h .2)) | no e ↦ inl (h .0, omega (arith, h .1, e), h .2) ]
 
   -- a union over a list
-  pub over-list : {Y : Type 0} {W : Y → Set m} {f : Y → Coef m} (ys : List Y) → ((y : Y) → Joined m (W y) (f y)) → Joined m (λ w. (y : Y) × Among y ys × W y w) (joins-over m f ys)
+  pub over-list : {Y : Type 0} {W : Y → Set m} {f : Y → Coef m} (ys : List Y) → ((y : Y) → Joined m (W y) (f y))
+      → Joined m (λ w. (y : Y) × Among y ys × W y w) (joins-over m f ys)
   over-list [] j = empty (λ w h. List·Memᴰ·not-nil (h .1))
   over-list {Y} {W} (y ∷ ys) j = same there (λ w h. back w h (List·Memᴰ·cases-cons (h .1))) (or (j y) (over-list {W = W} ys j))
     where

@@ -38,7 +38,8 @@ module _ {X : Type 0} (arcs : List (Arc X)) where
   last-tick e (t ∷ t′ ∷ ts) s i zero k r h l q = absurd (omega arith)
   last-tick e (t ∷ t′ ∷ ts) s i (suc n) k r h l q =
       let g = goes-on (h .0 .lead) e t′ ts (h .4) in
-      last-tick e (t′ ∷ ts) (g .0) (suc i) n k (h .0, h .1, subst (Reached arcs i) (sym (h .2)) r, g .1) (subst (λ at. walked arcs at e (t′ ∷ ts)) (g .1) (h .4)) (omega arith) (omega arith)
+      let reached : Reached arcs (suc i) (g .0) = (h .0, h .1, subst (Reached arcs i) (sym (h .2)) r, g .1) in
+      last-tick e (t′ ∷ ts) (g .0) (suc i) n k reached (subst (λ at. walked arcs at e (t′ ∷ ts)) (g .1) (h .4)) (omega arith) (omega arith)
 
   -- a walk of n ticks to a state that is reached after n ticks: what goes on from there goes on from it
   walk-to : (n s : ℕ) → Reached arcs n s → (ts : Ticks X) × (length ts ≡ n) × ((e : End) (us : Ticks X) → walked arcs (state s) e us → walked arcs (state 0) e (ts ++ us))
@@ -62,7 +63,8 @@ module _ (m : Model) (laws : Laws m) {X : Type 0} (weigh : X → m .Carrier) whe
   cell P left true out v d = one m laws (d .0 refl, refl, refl) (λ w h. h .2)
 
   -- for any R that tells which states are reached
-  pub table-walks : (arcs : List (Arc X)) (R : ℕ → ℕ → Bool) → ((n s : ℕ) → (R n s ≡ true) ↔ Reached arcs n s) → (e : End) → Row m weigh (tabled arcs e) (table-row m weigh R arcs e)
+  pub table-walks : (arcs : List (Arc X)) (R : ℕ → ℕ → Bool) → ((n s : ℕ) → (R n s ≡ true) ↔ Reached arcs n s)
+      → (e : End) → Row m weigh (tabled arcs e) (table-row m weigh R arcs e)
   table-walks arcs R tells e n = same m laws there back (over-list m laws arcs (λ a. cell (Reached arcs n (a .from)) e (R n (a .from)) (a .lead) (weigh (a .label)) (tells n (a .from))))
     where
       Arc-weighs : m .Carrier → Type 0

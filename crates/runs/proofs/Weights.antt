@@ -41,7 +41,8 @@ module _ (m : Model) (laws : Laws m) {X : Type 0} (weigh : X → m .Carrier) whe
   pub over-sum : (ts xs ys : Ticks X) (n : ℕ) (w : m .Carrier) → ts ≡ over xs ys → weight-at m weigh ts n ≡ w → w ≡ m .add (weight-at m weigh xs n) (weight-at m weigh ys n)
   over-sum ts xs ys n w made h = sym h ∙ ap (λ us. weight-at m weigh us n) made ∙ over-weight xs ys n
 
-  pub sum-over : (xs ys : Ticks X) (n : ℕ) (v u w : m .Carrier) → weight-at m weigh xs n ≡ v → weight-at m weigh ys n ≡ u → w ≡ m .add v u → weight-at m weigh (over xs ys) n ≡ w
+  pub sum-over : (xs ys : Ticks X) (n : ℕ) (v u w : m .Carrier) → weight-at m weigh xs n ≡ v → weight-at m weigh ys n ≡ u → w ≡ m .add v u
+      → weight-at m weigh (over xs ys) n ≡ w
   sum-over xs ys n v u w x y sums = over-weight xs ys n ∙ (cc)
 
   -- past its end a run weighs the unit

@@ -84,6 +84,7 @@ module _ {X : Type 0} where
   abbrev pub tabled : List (Arc X) → Family X
   tabled arcs e ts = (0 < length ts) × walked arcs (state 0) e ts
 
+  -- the runs of A and the runs of B
   abbrev pub chosen : Family X → Family X → Family X
   chosen A B e ts = A e ts ⊎ B e ts
 
@@ -124,6 +125,7 @@ module _ {X : Type 0} where
   aborted H A paused ts = Abreast (H paused) (A paused) ts
   aborted H A left ts = (H left ts × (length ts ≡ 1)) ⊎ Cut H A ts ⊎ Abreast (H paused) (A left) ts
 
+  -- the runs of a plan
   abbrev pub Runs : Plan X → Family X
   Runs (node x) = noded x
   Runs (pause x) = rested x

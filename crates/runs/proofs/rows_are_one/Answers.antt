@@ -1,7 +1,7 @@
 use borrow.Author.Needs.{needs}
 use Rattle.algebra.specs.Model.{Laws}
 use Rattle.runs.proofs.Joined.{unique}
-use Rattle.runs.proofs.theorems.rows_are_one.Needs as need
+use Rattle.runs.proofs.rows_are_one.Needs as need
 
 pub returns : need.returns
 returns g c plan p e p′ e′ r s n =

@@ -1,7 +1,7 @@
 use borrow.Author.Needs.{needs}
 use Rattle.algebra.specs.Model.{Laws, Chosen}
 use Rattle.runs.proofs.Figure.{first-at}
-use Rattle.runs.proofs.theorems.first_tick_stands.Needs as need
+use Rattle.runs.proofs.first_tick_stands.Needs as need
 
 pub returns : need.returns
 returns g c chooses plan p e r N repeats =

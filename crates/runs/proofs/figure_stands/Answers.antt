@@ -1,7 +1,7 @@
 use borrow.Author.Needs.{needs}
 use Rattle.algebra.specs.Model.{Laws}
 use Rattle.runs.proofs.Figure.{covers}
-use Rattle.runs.proofs.theorems.figure_stands.Needs as need
+use Rattle.runs.proofs.figure_stands.Needs as need
 
 pub returns : need.returns
 returns g c plan p e r N repeats =
