@@ -1,4 +1,5 @@
 -- Coefficients: a meaning, or absent.
+use mathlib.Core.Bool.{Bool, true, false}
 use mathlib.Core.Path.{_≡_}
 use Rattle.std.specs.declared.option.Option.{Option}
 use Rattle.std.specs.declared.option.Option.the-variants.{None, Some}
@@ -19,6 +20,11 @@ abbrev pub add : (m : Model) → Coef m → Coef m → Coef m
 add m None b = None
 add m (Some x) None = None
 add m (Some x) (Some y) = Some (m .add x y)
+
+-- a mark is the unit where it is set, else absent
+abbrev pub mark : (m : Model) → Bool → Coef m
+mark m true = Some (m .unit)
+mark m false = None
 
 -- the laws of coefficients, for every algebra that keeps its own
 pub record CoefLaws (m : Model) : Type 0 where

@@ -2,7 +2,7 @@
 ghost use mathlib.Core.Path.{_≡_};
 ghost use Rattle.std.specs.Options.{mapped};
 ghost use Rattle.std.specs.Orderings.{Decides};
-ghost use Rattle.algebra.specs.Coefficients.{join as joined, add as added, CoefLaws};
+ghost use Rattle.algebra.specs.Coefficients.{join as joined, add as added, mark as marked, CoefLaws};
 ghost use Rattle.algebra.specs.Model.{Laws};
 use crate::algebra::Algebra;
 
@@ -26,6 +26,13 @@ pub fn add<V: Algebra>(a: Option<V>, b: Option<V>) -> Option<V>
         (Some(_), None) => None,
         (Some(x), Some(y)) => Some(x.add(y)),
     }
+}
+
+// The unit where the mark is set, else absent.
+pub fn mark<V: Algebra>(set: bool) -> Option<V>
+    ensures { λ r. ⌜ mapped means r ≡ marked model set ⌝ }
+{
+    if set { Some(V::unit()) } else { None }
 }
 
 // Do the two mean the same?
