@@ -12,7 +12,7 @@ use Rattle.algebra.specs.Coefficients.{Coef, join, add}
 use Rattle.runs.specs.Plan.{Arc, Plan, node, pause, table, choice, sequence, loop, fork, abort}
 use Rattle.runs.specs.Runs.{paused, left, Ticks, Runs}
 use Rattle.runs.specs.Joined.{Joined}
-use Rattle.runs.specs.Weights.{weight-at, Weighs, JoinedWeight, Rows}
+use Rattle.runs.specs.Weights.{weight-at, Weighs, JoinedWeight, JoinedRows}
 use Rattle.runs.proofs.Filled.{filled}
 use Rattle.runs.proofs.Joined.{empty, one}
 use Rattle.runs.proofs.Forms.{Reached, never, at-first, at-second, table-row, tied-row, sequence-pauses, Starts, fork-pauses, fork-leaves, abort-leaves}
@@ -25,8 +25,8 @@ use Rattle.runs.proofs.Table.{table-walks}
 
 module _ (m : Model) (laws : Laws m) {X : Type 0} (weigh : X → m .Carrier) where
   -- equal rows are the same plan's
-  pub same-rows : {plan : Plan X} {p e p′ e′ : ℕ → Coef m} → Rows m weigh plan p e → ((n : ℕ) → p n ≡ p′ n) → ((n : ℕ) → e n ≡ e′ n)
-      → Rows m weigh plan p′ e′
+  pub same-rows : {plan : Plan X} {p e p′ e′ : ℕ → Coef m} → JoinedRows m weigh plan p e → ((n : ℕ) → p n ≡ p′ n) → ((n : ℕ) → e n ≡ e′ n)
+      → JoinedRows m weigh plan p′ e′
   same-rows {plan} r p e = record {
     pauses = λ n. subst (JoinedWeight m weigh plan paused n) (p n) (r .pauses n);
     leaves = λ n. subst (JoinedWeight m weigh plan left n) (e n) (r .leaves n);
@@ -51,40 +51,40 @@ module _ (m : Model) (laws : Laws m) {X : Type 0} (weigh : X → m .Carrier) whe
   two-ticks x (suc zero) = lone ((x ∷ []) ∷ [] ∷ []) 1 (m .unit) refl refl
   two-ticks x (suc (suc n)) = elsewhere ((x ∷ []) ∷ [] ∷ []) (suc (suc n)) (omega arith)
 
-  pub node-rows : (x : X) → Rows m weigh (node x) (never m) (at-first m (weigh x))
+  pub node-rows : (x : X) → JoinedRows m weigh (node x) (never m) (at-first m (weigh x))
   node-rows x = record { pauses = λ n. empty m laws (λ w h. h .of-set); leaves = one-tick x }
 
-  pub pause-rows : (x : X) → Rows m weigh (pause x) (at-first m (weigh x)) (at-second m)
+  pub pause-rows : (x : X) → JoinedRows m weigh (pause x) (at-first m (weigh x)) (at-second m)
   pause-rows x = record { pauses = one-tick x; leaves = two-ticks x }
 
   pub table-rows : (arcs : List (Arc X)) (R : ℕ → ℕ → Bool) → ((n s : ℕ) → (R n s ≡ true) ↔ Reached arcs n s)
-      → Rows m weigh (table arcs) (table-row m weigh R arcs paused) (table-row m weigh R arcs left)
+      → JoinedRows m weigh (table arcs) (table-row m weigh R arcs paused) (table-row m weigh R arcs left)
   table-rows arcs R tells = record { pauses = table-walks m laws weigh arcs R tells paused; leaves = table-walks m laws weigh arcs R tells left }
 
-  pub loop-rows : {a : Plan X} {p e S : ℕ → Coef m} → Rows m weigh a p e → e 0 ≡ None → Starts m e S → Rows m weigh (loop a) (tied-row m S p) (never m)
+  pub loop-rows : {a : Plan X} {p e S : ℕ → Coef m} → JoinedRows m weigh a p e → e 0 ≡ None → Starts m e S → JoinedRows m weigh (loop a) (tied-row m S p) (never m)
   loop-rows {a} r no-instant s = record {
     pauses = looped-pauses m laws weigh (Runs a) (filled a paused) (filled a left) (r .pauses) (r .leaves) no-instant s;
     leaves = looped-leaves m laws weigh (Runs a);
   }
 
-  module _ {a b : Plan X} {pa ea pb eb : ℕ → Coef m} (r : Rows m weigh a pa ea) (s : Rows m weigh b pb eb) where
-    pub choice-rows : Rows m weigh (choice a b) (λ n. join m (pa n) (pb n)) (λ n. join m (ea n) (eb n))
+  module _ {a b : Plan X} {pa ea pb eb : ℕ → Coef m} (r : JoinedRows m weigh a pa ea) (s : JoinedRows m weigh b pb eb) where
+    pub choice-rows : JoinedRows m weigh (choice a b) (λ n. join m (pa n) (pb n)) (λ n. join m (ea n) (eb n))
     choice-rows = record { pauses = either-row m laws weigh (r .pauses) (s .pauses); leaves = either-row m laws weigh (r .leaves) (s .leaves) }
 
-    pub sequence-rows : Rows m weigh (sequence a b) (sequence-pauses m pa ea pb) (tied-row m ea eb)
+    pub sequence-rows : JoinedRows m weigh (sequence a b) (sequence-pauses m pa ea pb) (tied-row m ea eb)
     sequence-rows = record {
       pauses = either-row m laws weigh (r .pauses) (tied m laws weigh (filled a left) (filled b paused) (r .leaves) (s .pauses));
       leaves = tied m laws weigh (filled a left) (filled b left) (r .leaves) (s .leaves);
     }
 
-    pub fork-rows : Rows m weigh (fork a b) (fork-pauses m pa ea pb eb) (fork-leaves m ea eb)
+    pub fork-rows : JoinedRows m weigh (fork a b) (fork-pauses m pa ea pb eb) (fork-leaves m ea eb)
     fork-rows = record {
       pauses = forked-pauses m laws weigh (Runs a) (Runs b) (filled a left) (filled b left) (r .pauses) (r .leaves) (s .pauses) (s .leaves);
       leaves = forked-leaves m laws weigh (Runs a) (Runs b) (filled a left) (filled b left) (r .leaves) (s .leaves);
     }
 
     -- a over b
-    pub abort-rows : Rows m weigh (abort a b) (λ n. add m (pa n) (pb n)) (abort-leaves m pa ea pb eb)
+    pub abort-rows : JoinedRows m weigh (abort a b) (λ n. add m (pa n) (pb n)) (abort-leaves m pa ea pb eb)
     abort-rows = record {
       pauses = abreast m laws weigh (r .pauses) (s .pauses);
       leaves = aborted-leaves m laws weigh (Runs a) (Runs b) (filled b paused) (r .pauses) (r .leaves) (s .pauses) (s .leaves);

@@ -12,7 +12,7 @@ use Rattle.algebra.specs.Model.{Model, Laws}
 use Rattle.algebra.specs.Coefficients.{Coef}
 use Rattle.runs.specs.Plan.{Plan}
 use Rattle.runs.specs.Runs.{End, paused, left, Ticks, Runs}
-use Rattle.runs.specs.Weights.{weight, weight-at, Weighs, JoinedWeight, Rows}
+use Rattle.runs.specs.Weights.{weight, weight-at, Weighs, JoinedWeight, JoinedRows}
 use Rattle.runs.proofs.Joined.{none, absent}
 use Rattle.runs.proofs.Beginnings.{begins}
 
@@ -33,7 +33,7 @@ module _ (m : Model) (laws : Laws m) {X : Type 0} (weigh : X → m .Carrier) whe
         | no k ↦ (e, record { run = ts; of-set = h; long = omega arith; weighs = refl })
       ]
 
-  module _ {plan : Plan X} {p e : ℕ → Coef m} (r : Rows m weigh plan p e) where
+  module _ {plan : Plan X} {p e : ℕ → Coef m} (r : JoinedRows m weigh plan p e) where
     -- no paused run of n + 1 ticks: no longer run
     no-longer : (n k : ℕ) → n < k → p n ≡ None → (f : End) (w : m .Carrier) → Weighs m weigh (Runs plan f) k w → ⊥
     no-longer n k l gone f w h =

@@ -9,12 +9,12 @@ use Rattle.algebra.specs.Coefficients.{Coef, join}
 use Rattle.runs.specs.Plan.{Plan}
 use Rattle.runs.specs.Runs.{End, paused, left, Runs}
 use Rattle.runs.specs.Joined.{Joined}
-use Rattle.runs.specs.Weights.{weight-at, Weighs, Rows}
+use Rattle.runs.specs.Weights.{weight-at, Weighs, JoinedRows}
 use Rattle.runs.specs.Figure.{Repeats, figure, Occurs, Covers, FirstAt}
 use Rattle.runs.proofs.Joined.{Below, below-trans, below-antisym, widen, or, range, joins-above, member}
 use Rattle.runs.proofs.Earlier.{last-there}
 
-module _ (m : Model) (laws : Laws m) {X : Type 0} (weigh : X → m .Carrier) {plan : Plan X} {p e : ℕ → Coef m} (r : Rows m weigh plan p e) where
+module _ (m : Model) (laws : Laws m) {X : Type 0} (weigh : X → m .Carrier) {plan : Plan X} {p e : ℕ → Coef m} (r : JoinedRows m weigh plan p e) where
   abbrev cell : ℕ → Coef m
   cell n = join m (p n) (e n)
 

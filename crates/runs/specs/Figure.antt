@@ -12,7 +12,7 @@ use Rattle.algebra.specs.Coefficients.{Coef, join}
 use Rattle.runs.specs.Plan.{Plan}
 use Rattle.runs.specs.Runs.{End, Ticks, Runs}
 use Rattle.runs.specs.Joined.{joined, joins}
-use Rattle.runs.specs.Weights.{weight-at, Weighs, Rows}
+use Rattle.runs.specs.Weights.{weight-at, Weighs, JoinedRows}
 
 -- a value betters a figure when their join is not the figure
 abbrev pub Betters : (m : Model) → m .Carrier → Coef m → Type 0
@@ -50,12 +50,12 @@ module _ (m : Model) {X : Type 0} (weigh : X → m .Carrier) where
 -- the figure covers every tick of every run
 abbrev pub FigureCovers : Model → Type 0
 FigureCovers m =
-    (plan : Plan Label) (p e : ℕ → Coef m) → Rows m (m .weigh) plan p e → (N : ℕ) → Repeats m p e N
+    (plan : Plan Label) (p e : ℕ → Coef m) → JoinedRows m (m .weigh) plan p e → (N : ℕ) → Repeats m p e N
     → Covers m (m .weigh) plan (figure m p e N)
 
 -- where the algebra chooses, the least tick whose coefficients join to the figure is the first at which a run reaches it
 abbrev pub FirstTick : Model → Type 0
 FirstTick m =
-    m .chooses ≡ true → (plan : Plan Label) (p e : ℕ → Coef m) → Rows m (m .weigh) plan p e → (N : ℕ) → Repeats m p e N
+    m .chooses ≡ true → (plan : Plan Label) (p e : ℕ → Coef m) → JoinedRows m (m .weigh) plan p e → (N : ℕ) → Repeats m p e N
     → (w : m .Carrier) → figure m p e N ≡ Some w
     → (t : ℕ) → join m (p t) (e t) ≡ Some w → ((n : ℕ) → n < t → join m (p n) (e n) ≢ Some w) → FirstAt m (m .weigh) plan t w

@@ -33,12 +33,12 @@ module _ (m : Model) {X : Type 0} (weigh : X → m .Carrier) where
   JoinedWeight plan end n c = Joined m (Weighs (Runs plan end) n) c
 
   -- p and e are the joined weights of the plan at every tick, paused and left
-  pub record Rows (plan : Plan X) (p e : ℕ → Coef m) : Type 0 where
+  pub record JoinedRows (plan : Plan X) (p e : ℕ → Coef m) : Type 0 where
     pub pauses : (n : ℕ) → JoinedWeight plan paused n (p n)
     pub leaves : (n : ℕ) → JoinedWeight plan left n (e n)
 
 -- a plan has one joined weight at each tick, paused and left
 abbrev pub RowsAreOne : Model → Type 0
 RowsAreOne m =
-    (plan : Plan Label) (p e p′ e′ : ℕ → Coef m) → Rows m (m .weigh) plan p e → Rows m (m .weigh) plan p′ e′
+    (plan : Plan Label) (p e p′ e′ : ℕ → Coef m) → JoinedRows m (m .weigh) plan p e → JoinedRows m (m .weigh) plan p′ e′
     → (n : ℕ) → (p n ≡ p′ n) × (e n ≡ e′ n)
