@@ -14,3 +14,6 @@ pub mod Table
 pub mod EachKind
 pub mod Earlier
 pub mod Figure
+pub mod Situations
+pub mod Ages
+pub mod Rules

@@ -2,6 +2,7 @@
 ghost use Rattle.runs.specs.Beginnings.{Beginnings};
 ghost use Rattle.runs.specs.Weights.{RowsAreOne};
 ghost use Rattle.runs.specs.Figure.{FigureCovers, FirstTick};
+ghost use Rattle.runs.specs.Computes.{NodeComputes, PauseComputes, TableComputes, ChoiceComputes, SequenceComputes, LoopComputes, ForkComputes, AbortComputes};
 use algebra::algebra::Algebra;
 
 // A proper beginning of a run is a paused run of the same plan.
@@ -22,4 +23,16 @@ pub fn figure_stands<V: Algebra>() -> ()
 // A choosing algebra's figure is reached first at the least tick whose coefficients join to it.
 pub fn first_tick_stands<V: Algebra>() -> ()
     ensures { λ _. ⌜ FirstTick model ⌝ }
+{}
+
+// Each rule computes its plan: over pieces that give the joined weights of plans, its rows are those of the composed plan.
+pub fn rules_compute<V: Algebra>() -> ()
+    ensures node { λ _. ⌜ NodeComputes model ⌝ }
+    ensures pause { λ _. ⌜ PauseComputes model ⌝ }
+    ensures table { λ _. ⌜ TableComputes model ⌝ }
+    ensures choice { λ _. ⌜ ChoiceComputes model ⌝ }
+    ensures sequence { λ _. ⌜ SequenceComputes model ⌝ }
+    ensures repeat { λ _. ⌜ LoopComputes model ⌝ }
+    ensures fork { λ _. ⌜ ForkComputes model ⌝ }
+    ensures abort { λ _. ⌜ AbortComputes model ⌝ }
 {}
