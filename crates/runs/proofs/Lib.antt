@@ -5,7 +5,6 @@ pub mod Filled
 pub mod Beginnings
 pub mod Forms
 pub mod Weights
-pub mod Starts
 pub mod Tied
 pub mod Loop
 pub mod Fork
@@ -17,3 +16,4 @@ pub mod Figure
 pub mod Situations
 pub mod Ages
 pub mod Rules
+pub mod OneShape

@@ -6,3 +6,4 @@ pub mod Beginnings
 pub mod Figure
 pub mod Arcs
 pub mod Computes
+pub mod OneShape

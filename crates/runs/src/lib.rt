@@ -3,6 +3,7 @@ ghost use Rattle.runs.specs.Beginnings.{Beginnings};
 ghost use Rattle.runs.specs.Weights.{RowsAreOne};
 ghost use Rattle.runs.specs.Figure.{FigureCovers, FirstTick};
 ghost use Rattle.runs.specs.Computes.{NodeComputes, PauseComputes, TableComputes, ChoiceComputes, SequenceComputes, LoopComputes, ForkComputes, AbortComputes};
+ghost use Rattle.runs.specs.OneShape.{RowsHaveOneShape, ShelvesHaveOneShape};
 use algebra::algebra::Algebra;
 
 // A proper beginning of a run is a paused run of the same plan.
@@ -35,4 +36,10 @@ pub fn rules_compute<V: Algebra>() -> ()
     ensures repeat { λ _. ⌜ LoopComputes model ⌝ }
     ensures fork { λ _. ⌜ ForkComputes model ⌝ }
     ensures abort { λ _. ⌜ AbortComputes model ⌝ }
+{}
+
+// One shape for one meaning: rows in their least shape are kept in one way.
+pub fn one_shape_stands<V: Algebra>() -> ()
+    ensures rows { λ _. ⌜ RowsHaveOneShape model ⌝ }
+    ensures shelves { λ _. ⌜ ShelvesHaveOneShape model ⌝ }
 {}
