@@ -17,3 +17,4 @@ pub mod Situations
 pub mod Ages
 pub mod Rules
 pub mod OneShape
+pub mod Steps

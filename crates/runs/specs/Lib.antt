@@ -7,3 +7,4 @@ pub mod Figure
 pub mod Arcs
 pub mod Computes
 pub mod OneShape
+pub mod Steps

@@ -4,7 +4,10 @@ ghost use Rattle.runs.specs.Weights.{RowsAreOne};
 ghost use Rattle.runs.specs.Figure.{FigureCovers, FirstTick};
 ghost use Rattle.runs.specs.Computes.{NodeComputes, PauseComputes, TableComputes, ChoiceComputes, SequenceComputes, LoopComputes, ForkComputes, AbortComputes};
 ghost use Rattle.runs.specs.OneShape.{RowsHaveOneShape, ShelvesHaveOneShape};
+ghost use Rattle.runs.specs.Steps.{SpellingStays, SpellsOne};
 use algebra::algebra::Algebra;
+
+pub mod step;
 
 // A proper beginning of a run is a paused run of the same plan.
 pub fn beginnings_stand() -> ()
@@ -42,4 +45,10 @@ pub fn rules_compute<V: Algebra>() -> ()
 pub fn one_shape_stands<V: Algebra>() -> ()
     ensures rows { λ _. ⌜ RowsHaveOneShape model ⌝ }
     ensures shelves { λ _. ⌜ ShelvesHaveOneShape model ⌝ }
+{}
+
+// What a step spells: recording more changes no plan that an earlier step spells, and a step spells at most one.
+pub fn spelling_stands() -> ()
+    ensures stays { λ _. ⌜ SpellingStays ⌝ }
+    ensures one { λ _. ⌜ SpellsOne ⌝ }
 {}
