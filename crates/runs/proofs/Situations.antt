@@ -1,5 +1,5 @@
 -- The phases that the situations of a rule carry are those of their ticks.
-use mathlib.Core.Path.{_≡_, refl, ap, _∙_}
+use mathlib.Core.Path.{_≡_, ap, _∙_}
 use Prim.Native.Nat.{ℕ, zero, suc}
 use Rattle.algebra.specs.Model.{Model}
 use Rattle.rows.specs.declared.situation.Situation.{Situation}

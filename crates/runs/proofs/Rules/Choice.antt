@@ -1,5 +1,5 @@
 -- The choice rule computes the choice of its pieces' plans.
-use mathlib.Core.Path.{_≡_, refl, sym, ap}
+use mathlib.Core.Path.{_≡_, refl}
 use Prim.Native.Nat.{ℕ}
 use Rattle.algebra.specs.Model.{Model, Laws}
 use Rattle.rows.specs.Pieces.{Rows, pause-at, exit-at}

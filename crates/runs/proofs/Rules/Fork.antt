@@ -1,11 +1,11 @@
 -- The fork rule computes the fork of its pieces' plans.
-use mathlib.Core.Path.{_≡_, refl, sym, ap, _∙_}
+use mathlib.Core.Path.{_≡_, refl}
 use mathlib.Core.Bool.{Bool, true, false, _||_}
 use Prim.Native.Nat.{ℕ, zero, suc}
 use Rattle.std.specs.declared.option.Option.the-variants.{None, Some}
 use Rattle.std.specs.Options.{isSome}
 use Rattle.algebra.specs.Model.{Model, Laws}
-use Rattle.algebra.specs.Coefficients.{Coef, join, add, mark}
+use Rattle.algebra.specs.Coefficients.{Coef, join, mark}
 use Rattle.algebra.proofs.Coefficients.{coef-laws}
 use Rattle.rows.specs.Pieces.{Rows, pause-at, exit-at}
 use Rattle.rows.specs.Rules.Rule.{at, rows}
@@ -13,7 +13,7 @@ use Rattle.rows.specs.Rules.Fork.{fork as fork-rule}
 use Rattle.runs.specs.Plan.{Plan, fork}
 use Rattle.runs.specs.Weights.{JoinedRows}
 use Rattle.runs.proofs.Joined.{gate}
-use Rattle.runs.proofs.Forms.{mark as mark-at, fork-pauses, fork-leaves}
+use Rattle.runs.proofs.Forms.{mark as mark-at}
 use Rattle.runs.proofs.EachKind.{same-rows, fork-rows}
 use Rattle.runs.proofs.Situations.{phase-of, phase-a, phase-b}
 

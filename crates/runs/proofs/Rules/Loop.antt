@@ -1,8 +1,7 @@
 -- The loop rule computes the loop of its piece's plan.
-use mathlib.Core.Path.{_≡_, refl, sym, ap, _∙_}
-use mathlib.Core.Bool.{Bool, true, false}
-use Prim.Native.Nat.{ℕ, zero, suc, _≤_}
-use Rattle.std.specs.declared.option.Option.the-variants.{None, Some}
+use mathlib.Core.Path.{_≡_, refl, sym, ap}
+use Prim.Native.Nat.{ℕ, suc, _≤_}
+use Rattle.std.specs.declared.option.Option.the-variants.{None}
 use Rattle.std.specs.Options.{isSome}
 use Rattle.algebra.specs.Model.{Model, Laws}
 use Rattle.algebra.specs.Coefficients.{Coef, join, add}

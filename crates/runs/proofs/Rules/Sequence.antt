@@ -1,11 +1,11 @@
 -- The sequence rule computes the sequence of its pieces' plans.
 use mathlib.Core.Path.{_≡_, refl, sym, ap, _∙_}
-use mathlib.Core.Bool.{Bool, true, false, _&&_}
-use Prim.Native.Nat.{ℕ, suc, _≤_}
+use mathlib.Core.Bool.{Bool, _&&_}
+use Prim.Native.Nat.{ℕ, _≤_}
 use Rattle.std.specs.Options.{isSome}
 use Rattle.std.proofs.shelf.Tests.{and-parts, and-from}
 use Rattle.algebra.specs.Model.{Model, Laws}
-use Rattle.algebra.specs.Coefficients.{Coef, join, add}
+use Rattle.algebra.specs.Coefficients.{add}
 use Rattle.algebra.proofs.Coefficients.{coef-laws}
 use Rattle.rows.specs.Sets.{has, joins as joins-in}
 use Rattle.rows.specs.Pieces.{Rows, size, pause-at, exit-at}
@@ -15,7 +15,7 @@ use Rattle.runs.specs.Plan.{Plan, sequence}
 use Rattle.runs.specs.Weights.{JoinedRows}
 use Rattle.runs.proofs.EachKind.{same-rows, sequence-rows}
 use Rattle.runs.proofs.Situations.{phase-of, phase-a}
-use Rattle.runs.proofs.Ages.{Ages, Lasting, joins-ages}
+use Rattle.runs.proofs.Ages.{Ages, joins-ages}
 use Rattle.runs.proofs.Rules.Lasting.{pauses-last, exits-last}
 
 module _ (m : Model) (laws : Laws m) {X : Type 0} (weigh : X → m .Carrier) (A B : Rows m) (pos : 1 ≤ B .period) {a b : Plan X}

@@ -1,26 +1,26 @@
 -- The table rule computes the table of its arcs.
 use mathlib.Core.Path.{_≡_, refl, sym, ap, subst, _∙_}
-use mathlib.Core.Logic.{_⊎_, inl, inr, ⊎-elim, _↔_}
+use mathlib.Core.Logic.{inl, inr, ⊎-elim}
 use mathlib.Core.Bool.{Bool, true, false, cond, not, _&&_}
-use mathlib.Core.List.{List, [], _∷_, map, List·Memᴰ as Among, List·Memᴰ·head, List·Memᴰ·tail, List·Memᴰ·cases-cons, List·Memᴰ·not-nil, Memᴰ·map, Memᴰ·of-map}
-use Prim.Native.Nat.{ℕ, zero, suc, _≤_, _<_}
+use mathlib.Core.List.{List, [], _∷_, List·Memᴰ as Among, List·Memᴰ·head, List·Memᴰ·tail, List·Memᴰ·cases-cons, List·Memᴰ·not-nil, Memᴰ·map, Memᴰ·of-map}
+use Prim.Native.Nat.{ℕ, zero, suc, _<_}
 use native.Mathlib.Omega.{arith}
-use lib.Dec.{eqb, ltb}
-use Rattle.std.specs.declared.option.Option.the-variants.{None, Some}
+use lib.Dec.{eqb}
+use Rattle.std.specs.declared.option.Option.the-variants.{Some}
 use Rattle.std.proofs.shelf.Tests.{both-ways, cases-bool, eqb-true, eq-eqb, ne-eqb, ltb-true, lt-ltb, le-ltb, cond-true, cond-false, cond-both, and-parts, and-from}
 use Rattle.algebra.specs.declared.arc.Arc.{Arc as Recorded}
 use Rattle.algebra.specs.Model.{Model, Laws}
 use Rattle.algebra.specs.Coefficients.{Coef, join}
 use Rattle.rows.specs.Sets.{has, with-member}
-use Rattle.rows.specs.Rules.Rule.{at, rows}
+use Rattle.rows.specs.Rules.Rule.{at}
 use Rattle.rows.specs.Rules.Table.{stays, current, weights, reached, table as table-rule}
 use Rattle.rows.proofs.SetLaws.{has-none, has-power, with-has, with-old, with-new}
-use Rattle.runs.specs.Plan.{Lead, state, out, Arc, table}
+use Rattle.runs.specs.Plan.{Lead, state, out, table}
 use Rattle.runs.specs.Runs.{End, paused, left}
 use Rattle.runs.specs.Arcs.{lead-of, arc-of, plan-arcs, LeadsOn}
 use Rattle.runs.specs.Computes.{Computes}
 use Rattle.runs.proofs.Joined.{joins-over}
-use Rattle.runs.proofs.Forms.{Reached, arc-cell, table-row}
+use Rattle.runs.proofs.Forms.{Reached, arc-cell}
 use Rattle.runs.proofs.EachKind.{same-rows, table-rows}
 
 -- every arc of the list leads to a state or out
