@@ -1,0 +1,10 @@
+pub mod Plan
+pub mod Runs
+pub mod Joined
+pub mod Weights
+pub mod Beginnings
+pub mod Figure
+pub mod Arcs
+pub mod Computes
+pub mod OneShape
+pub mod Steps
