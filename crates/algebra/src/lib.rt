@@ -6,4 +6,6 @@ pub mod coefficient;
 pub mod label;
 pub mod pair;
 pub mod ports;
+#[cfg(test)]
+mod tests;
 pub mod worst;
