@@ -1,0 +1,16 @@
+pub mod Joined
+pub mod Ends
+pub mod Ticks
+pub mod Filled
+pub mod Beginnings
+pub mod Forms
+pub mod Weights
+pub mod Starts
+pub mod Tied
+pub mod Loop
+pub mod Fork
+pub mod Abort
+pub mod Table
+pub mod EachKind
+pub mod Earlier
+pub mod Figure
