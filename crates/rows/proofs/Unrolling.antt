@@ -13,11 +13,13 @@ use Rattle.std.specs.declared.option.Option.{Option}
 use Rattle.std.specs.declared.option.Option.the-variants.{None, Some}
 use Rattle.std.specs.Options.{mapped}
 use Rattle.algebra.specs.Model.{Model}
+use Rattle.algebra.specs.Coefficients.{Coef}
 use Rattle.rows.specs.Filled.{Filled, kept-at}
 use Rattle.rows.specs.Phases.{phase}
 use Rattle.rows.specs.Pieces.{meanings, on-shelf, given-at}
 use Rattle.rows.specs.Repeats.{LeastShape}
 use Rattle.rows.specs.Rules.Rule.{Rule, at, rows}
+use Rattle.rows.specs.Unrolled.{Keeps}
 use Rattle.rows.specs.Search.{noted, folded, RoundHas, LeastPeriod, LeastTransient}
 use Rattle.rows.proofs.Periods.{repeating, least-shape, at-phase}
 use Rattle.rows.proofs.PhaseLaws.{phase-within}
@@ -93,3 +95,22 @@ pub same-past : {X : Type 0} (xs ys : List (Option X)) (n : ℕ) → length xs �
 same-past xs ys n len same =
     ext-getD None (drop n xs) (drop n ys) (simp length-drop (omega arith))
     (λ i h. getD-drop n xs i None ∙ same (n + i) (omega arith) ∙ sym (getD-drop n ys i None))
+
+-- what the shelves' cells mean is what all cells mean there
+pub means-below : {V C : Type 0} (f : V → C) (xs : List (Option V)) (n j : ℕ) → j < n → getD (meanings f (take n xs)) j None ≡ getD (meanings f xs) j None
+means-below f xs n j less =
+    means-at f (take n xs) j ∙ ap (mapped f) (getD-take n xs j None less) ∙ sym (means-at f xs j)
+
+-- rows that a shelf keeps are kept among the shelves' cells alone
+pub kept-below : (m : Model) {V : Type 0} (f : V → m .Carrier) (row : ℕ → Coef m × Coef m) (cells : List (Option V)) (shelf t d : ℕ) → shelf ≤ 15 → t + d ≤ 64 → Keeps m row shelf t d (meanings f cells) → Keeps m row shelf t d (meanings f (take 2048 cells))
+kept-below m f row cells shelf t d low short keeps = record {
+  least = keeps .least;
+  gives = λ n.
+    let within = phase-within t d (keeps .least .positive) n in
+    (λ i. (below (128 * shelf + phase t d n) (omega arith) i, below (128 * shelf + 64 + phase t d n) (omega arith) i)) ∙ keeps .gives n;
+  no-pause = λ k more less. below (128 * shelf + k) (omega arith) ∙ keeps .no-pause k more less;
+  no-exit = λ k more less. below (128 * shelf + 64 + k) (omega arith) ∙ keeps .no-exit k more less;
+}
+  where
+    below : (j : ℕ) → j < 2048 → getD (meanings f (take 2048 cells)) j None ≡ getD (meanings f cells) j None
+    below j less = means-below f cells 2048 j less

@@ -29,7 +29,7 @@ pub fn unroll<R: RowRule, V: Algebra>(
     requires { ⌜ 4096 ≤ length (now cells) ⌝ ∗ ⌜ shelf ≤ 15 ⌝ }
     ensures past { λ _. ⌜ drop 4096 (now (cells .exit)) ≡ drop 4096 (now (cells .entry)) ⌝ }
     ensures others { λ _. ⌜ ((j : ℕ) → j < 2048 → (j < 128 * shelf) ⊎ (128 * shelf + 128 ≤ j) → getD (now (cells .exit)) j absent ≡ getD (now (cells .entry)) j absent) ⌝ }
-    ensures cases { λ r. ⌜ (let over = R·RowRule .works (now (rule .entry)) (V·Algebra .model) (meanings (V·Algebra .means) (take 2048 (now (cells .entry)))) in Cases r (λ u. Unrolls over (u .reply) shelf (u .shape .transient) (u .shape .period) (meanings (V·Algebra .means) (now (cells .exit)))) (λ no. Refused over no × (take 2048 (now (cells .exit)) ≡ take 2048 (now (cells .entry))))) ⌝ }
+    ensures cases { λ r. ⌜ (let over = R·RowRule .works (now (rule .entry)) (V·Algebra .model) (meanings (V·Algebra .means) (take 2048 (now (cells .entry)))) in Cases r (λ u. Unrolls over (u .reply) shelf (u .shape .transient) (u .shape .period) (meanings (V·Algebra .means) (take 2048 (now (cells .exit))))) (λ no. Refused over no × (take 2048 (now (cells .exit)) ≡ take 2048 (now (cells .entry))))) ⌝ }
 {
     let mut situations = [Situation {
         a: 0,

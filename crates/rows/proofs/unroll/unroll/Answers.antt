@@ -7,7 +7,7 @@ use Rattle.rows.specs.Pieces.{meanings}
 use Rattle.rows.specs.Repeats.{LeastShape}
 use Rattle.rows.specs.Rules.Rule.{rows}
 use Rattle.rows.specs.Search.{noted}
-use Rattle.rows.proofs.Unrolling.{shape-of, agree-below, shelf-gives, filled-past, same-past}
+use Rattle.rows.proofs.Unrolling.{shape-of, agree-below, shelf-gives, filled-past, same-past, kept-below}
 use Rattle.rows.proofs.unroll.unroll.Needs as need
 
 pub returns-in-rest : need.returns-in-rest
@@ -68,9 +68,13 @@ returns g c =
       cases = record {
         soon = turn .0;
         first = record { earlier = (earlier, turn .1, turn .2); fresh = turn .3 };
-        least = least;
-        gives = shelf-gives m f rule before after shelf t d number filled (c .if-transient-period-gt64 .left) few (turn .4) least;
-        no-pause = λ k more less. filled-past m f before after shelf (t + d) filled (c .if-transient-period-gt64 .left) k _ 2048 more (filled .pauses k less);
-        no-exit = λ k more less. filled-past m f before after shelf (t + d) filled (c .if-transient-period-gt64 .left) k _ 3072 more (filled .exits k less);
+        keeps = kept-below m f _ after shelf t d (omega arith)
+          (c .if-transient-period-gt64 .left)
+          (record {
+            least = least;
+            gives = shelf-gives m f rule before after shelf t d number filled (c .if-transient-period-gt64 .left) few (turn .4) least;
+            no-pause = λ k more less. filled-past m f before after shelf (t + d) filled (c .if-transient-period-gt64 .left) k _ 2048 more (filled .pauses k less);
+            no-exit = λ k more less. filled-past m f before after shelf (t + d) filled (c .if-transient-period-gt64 .left) k _ 3072 more (filled .exits k less);
+          });
       };
     }

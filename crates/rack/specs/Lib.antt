@@ -1,0 +1,7 @@
+pub mod Refusals
+pub mod State
+pub mod Calls
+pub mod Questions
+pub mod Effects
+pub mod Tables
+pub mod Held

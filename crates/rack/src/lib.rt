@@ -1,0 +1,10 @@
+// The rack: shelves, steps and arcs behind calls that answer as the questions say.
+pub mod arcs;
+pub mod asks;
+pub mod call;
+pub mod core_state;
+pub mod questions;
+pub mod record;
+pub mod refusal;
+pub mod shelf;
+pub mod tables;
