@@ -1,3 +1,4 @@
 pub mod Recording
 pub mod Elements
 pub mod Present
+pub mod LeafRows

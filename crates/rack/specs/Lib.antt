@@ -5,3 +5,4 @@ pub mod Questions
 pub mod Effects
 pub mod Tables
 pub mod Held
+pub mod Stops

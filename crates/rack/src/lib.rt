@@ -1,8 +1,10 @@
 // The rack: shelves, steps and arcs behind calls that answer as the questions say.
 pub mod arcs;
 pub mod asks;
+pub mod building;
 pub mod call;
 pub mod core_state;
+pub mod leaves;
 pub mod questions;
 pub mod record;
 pub mod refusal;

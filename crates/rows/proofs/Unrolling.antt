@@ -71,7 +71,7 @@ agree-below xs ys n e j less = sym (getD-take n xs j None less) ∙ ap (λ zs. g
 
 module _ (m : Model) {V : Type 0} (f : V → m .Carrier) (before after : List (Option V)) (shelf size : ℕ) (filled : Filled before after shelf size) (fits : size ≤ 64) where
   -- the phases of the shelf are the noted ticks
-  pub filled-at : (k : ℕ) → k < size → _≡_ {A = Option (m .Carrier) × Option (m .Carrier)} (getD (meanings f after) (128 * shelf + k) None, getD (meanings f after) (128 * shelf + 64 + k) None) (noted m (meanings f before) k)
+  filled-at : (k : ℕ) → k < size → _≡_ {A = Option (m .Carrier) × Option (m .Carrier)} (getD (meanings f after) (128 * shelf + k) None, getD (meanings f after) (128 * shelf + 64 + k) None) (noted m (meanings f before) k)
   filled-at k less = λ i. (one (128 * shelf + k) 2048 (filled .pauses k (omega arith)) i, one (128 * shelf + 64 + k) 3072 (filled .exits k (omega arith)) i)
     where
       one : (j from : ℕ) → getD after j None ≡ kept-at before from size k → getD (meanings f after) j None ≡ getD (meanings f before) (from + k) None
@@ -79,16 +79,21 @@ module _ (m : Model) {V : Type 0} (f : V → m .Carrier) (before after : List (O
           means-at f after j ∙ ap (mapped f) (e ∙ cond-true (ltb k size) _ _ (lt-ltb k size less)) ∙ sym (means-at f before (from + k))
 
   -- past the size the shelf is absent
-  pub filled-past : (k j from : ℕ) → size ≤ k → getD after j None ≡ kept-at before from size k → getD (meanings f after) j None ≡ None
+  filled-past : (k j from : ℕ) → size ≤ k → getD after j None ≡ kept-at before from size k → getD (meanings f after) j None ≡ None
   filled-past k j from more e = means-at f after j ∙ ap (mapped f) (e ∙ cond-false (ltb k size) _ _ (le-ltb k size more))
 
--- the filled shelf gives the rule's rows at every tick
-pub shelf-gives : (m : Model) {V : Type 0} (f : V → m .Carrier) (rule : Rule m) (before after : List (Option V)) (shelf t d n : ℕ) → Filled before after shelf (t + d) → t + d ≤ 64 → t + d ≤ n → ((k : ℕ) → k < n → noted m (meanings f before) k ≡ rows rule k) → LeastShape (rows rule) t d → (tick : ℕ) → given-at (on-shelf m (meanings f after) shelf t d) tick ≡ rows rule tick
-shelf-gives m f rule before after shelf t d n filled fits few kept least tick =
+-- a shelf filled from noted rows keeps them
+pub shelf-keeps : (m : Model) {V : Type 0} (f : V → m .Carrier) (row : ℕ → Coef m × Coef m) (before after : List (Option V)) (shelf t d n : ℕ) → Filled before after shelf (t + d) → t + d ≤ 64 → t + d ≤ n → ((k : ℕ) → k < n → noted m (meanings f before) k ≡ row k) → LeastShape row t d → Keeps m row shelf t d (meanings f after)
+shelf-keeps m f row before after shelf t d n filled fits few kept least = record {
+  least = least;
+  gives = λ tick.
     let within = phase-within t d (least .positive) tick in
     filled-at m f before after shelf (t + d) filled fits (phase t d tick) within
     ∙ kept (phase t d tick) (omega arith)
-    ∙ sym (at-phase (rows rule) t d (least .positive) (least .repeats) tick)
+    ∙ sym (at-phase row t d (least .positive) (least .repeats) tick);
+  no-pause = λ k more less. filled-past m f before after shelf (t + d) filled fits k _ 2048 more (filled .pauses k less);
+  no-exit = λ k more less. filled-past m f before after shelf (t + d) filled fits k _ 3072 more (filled .exits k less);
+}
 
 -- lists of one length that agree from n on are one from n on
 pub same-past : {X : Type 0} (xs ys : List (Option X)) (n : ℕ) → length xs ≡ length ys → ((j : ℕ) → n ≤ j → getD xs j None ≡ getD ys j None) → drop n xs ≡ drop n ys

@@ -71,7 +71,7 @@ fn look<R: RowRule, V: Algebra>(rule: &R, cells: &[Option<V>], s: Situation) -> 
 }
 
 // Notes pause and exit at tick n in the working cells.
-fn note<V: Algebra>(cells: &mut [Option<V>], n: usize, pause: Option<V>, exit: Option<V>)
+pub fn note<V: Algebra>(cells: &mut [Option<V>], n: usize, pause: Option<V>, exit: Option<V>)
     requires { ⌜ 4096 ≤ length (now cells) ⌝ ∗ ⌜ n < 1024 ⌝ }
     ensures { λ _. ⌜ now (cells .exit) ≡ set (set (now (cells .entry)) (2048 + n) pause) (3072 + n) exit ⌝ }
 {

@@ -7,7 +7,7 @@ use Rattle.rows.specs.Pieces.{meanings}
 use Rattle.rows.specs.Repeats.{LeastShape}
 use Rattle.rows.specs.Rules.Rule.{rows}
 use Rattle.rows.specs.Search.{noted}
-use Rattle.rows.proofs.Unrolling.{shape-of, agree-below, shelf-gives, filled-past, same-past, kept-below}
+use Rattle.rows.proofs.Unrolling.{shape-of, agree-below, shelf-keeps, same-past, kept-below}
 use Rattle.rows.proofs.unroll.unroll.Needs as need
 
 pub returns-in-rest : need.returns-in-rest
@@ -70,11 +70,6 @@ returns g c =
         first = record { earlier = (earlier, turn .1, turn .2); fresh = turn .3 };
         keeps = kept-below m f _ after shelf t d (omega arith)
           (c .if-transient-period-gt64 .left)
-          (record {
-            least = least;
-            gives = shelf-gives m f rule before after shelf t d number filled (c .if-transient-period-gt64 .left) few (turn .4) least;
-            no-pause = λ k more less. filled-past m f before after shelf (t + d) filled (c .if-transient-period-gt64 .left) k _ 2048 more (filled .pauses k less);
-            no-exit = λ k more less. filled-past m f before after shelf (t + d) filled (c .if-transient-period-gt64 .left) k _ 3072 more (filled .exits k less);
-          });
+          (shelf-keeps m f (rows rule) before after shelf t d number filled (c .if-transient-period-gt64 .left) few (turn .4) least);
       };
     }

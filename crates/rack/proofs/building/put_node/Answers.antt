@@ -1,0 +1,4 @@
+use Rattle.rack.proofs.building.put_node.Needs as need
+
+pub returns : need.returns
+returns g c = ?
