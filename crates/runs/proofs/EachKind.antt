@@ -13,9 +13,10 @@ use Rattle.runs.specs.Plan.{Arc, Plan, node, pause, table, choice, sequence, l
 use Rattle.runs.specs.Runs.{paused, left, Ticks, Runs}
 use Rattle.runs.specs.Joined.{Joined}
 use Rattle.runs.specs.Weights.{weight-at, Weighs, JoinedWeight, JoinedRows}
+use Rattle.runs.specs.Computes.{never, at-first, at-second}
 use Rattle.runs.proofs.Filled.{filled}
 use Rattle.runs.proofs.Joined.{empty, one}
-use Rattle.runs.proofs.Forms.{Reached, never, at-first, at-second, table-row, tied-row, sequence-pauses, Starts, fork-pauses, fork-leaves, abort-leaves}
+use Rattle.runs.proofs.Forms.{Reached, table-row, tied-row, sequence-pauses, Starts, fork-pauses, fork-leaves, abort-leaves}
 use Rattle.runs.proofs.Weights.{Row, either-row}
 use Rattle.runs.proofs.Tied.{tied}
 use Rattle.runs.proofs.Loop.{looped-pauses, looped-leaves}

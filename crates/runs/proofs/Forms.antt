@@ -17,19 +17,6 @@ Reached arcs zero s = s ≡ 0
 Reached {X} arcs (suc n) s = (a : Arc X) × Among a arcs × Reached arcs n (a .from) × (a .lead ≡ state s)
 
 module _ (m : Model) where
-  -- w at the first tick, then absent
-  abbrev pub at-first : m .Carrier → ℕ → Coef m
-  at-first w zero = Some w
-  at-first w (suc n) = None
-
-  abbrev pub never : ℕ → Coef m
-  never n = None
-
-  -- the unit at the second tick, else absent
-  abbrev pub at-second : ℕ → Coef m
-  at-second zero = None
-  at-second (suc n) = at-first (m .unit) n
-
   -- a first run that ends at tick n with a second that begins there, or that ended k + 1 ticks before
   abbrev pub tied-row : (a b : ℕ → Coef m) → ℕ → Coef m
   tied-row a b n = join m (add m (a n) (b 0)) (joins m (λ k. gate m (a (n - suc k)) (b (suc k))) n)

@@ -1,11 +1,13 @@
 -- Joined weights are unique; the joined weights of small sets, of sums, and of unions.
 use mathlib.Core.Path.{_≡_, refl, sym, ap, subst, _∙_}
 use mathlib.Core.Logic.{_⊎_, inl, inr}
+use mathlib.Core.Bool.{true}
 use mathlib.Core.List.{List, [], _∷_, _++_, map, List·Memᴰ as Among, List·Memᴰ·head, List·Memᴰ·tail, List·Memᴰ·cases-cons, List·Memᴰ·not-nil}
 use Prim.Native.Nat.{ℕ, zero, suc, _<_}
 use native.Mathlib.Omega.{arith}
 use native.Mathlib.Decide.{ℕ-discrete}
 use Rattle.std.specs.declared.option.Option.the-variants.{None, Some}
+use Rattle.std.specs.Options.{isSome}
 use Rattle.algebra.specs.Model.{Model, Laws}
 use Rattle.algebra.specs.Coefficients.{Coef, join, add}
 use Rattle.algebra.proofs.Coefficients.{coef-laws}
@@ -24,6 +26,14 @@ joins-same m f g (suc n) h = ap (λ c. join m c (f n)) (joins-same m f g n (λ k
 abbrev pub gate : (m : Model) → Coef m → Coef m → Coef m
 gate m None b = None
 gate m (Some a) b = b
+
+pub gate-present : (m : Model) (a b : Coef m) → isSome a ≡ true → gate m a b ≡ b
+gate-present m None b h = let z : _≡_ {A = ℕ} 0 1 = cc in absurd (omega arith)
+gate-present m (Some x) b h = refl
+
+pub gate-some : (m : Model) (a b : Coef m) (x : m .Carrier) → gate m a b ≡ Some x → (isSome a ≡ true) × (b ≡ Some x)
+gate-some m None b x h = let z : _≡_ {A = ℕ} 0 1 = cc in absurd (omega arith)
+gate-some m (Some y) b x h = (refl, h)
 
 -- a set of weights
 abbrev pub Set : Model → Type 1
@@ -220,6 +230,11 @@ module _ (m : Model) (laws : Laws m) where
         | yes e ↦ subst (λ x. Below m (f x) (join m (joins m f n) (f n))) (sym e) (below-second (joins m f n) (f n))
         | no e ↦ below-trans (f k) (joins m f n) (join m (joins m f n) (f n)) (joins-above f k n (omega arith)) (below-first (joins m f n) (f n))
       ]
+
+  -- what bounds each piece bounds the join of the range
+  pub joins-below : (f : ℕ → Coef m) (n : ℕ) (c : Coef m) → ((k : ℕ) → k < n → Below m (f k) c) → Below m (joins m f n) c
+  joins-below f zero c up = refl
+  joins-below f (suc n) c up = below-both (joins m f n) (f n) c (joins-below f n c (λ k l. up k (omega arith))) (up n (omega arith))
 
   -- where the join of two is one of them, a joined weight is a member
   module _ (chosen : (a b : m .Carrier) → (m .join a b ≡ a) ⊎ (m .join a b ≡ b)) where

@@ -5,7 +5,6 @@ pub mod Filled
 pub mod Beginnings
 pub mod Forms
 pub mod Weights
-pub mod Starts
 pub mod Tied
 pub mod Loop
 pub mod Fork
@@ -14,3 +13,8 @@ pub mod Table
 pub mod EachKind
 pub mod Earlier
 pub mod Figure
+pub mod Situations
+pub mod Ages
+pub mod Rules
+pub mod OneShape
+pub mod Steps

@@ -11,10 +11,11 @@ use Rattle.algebra.specs.Coefficients.{Coef}
 use Rattle.runs.specs.Runs.{paused, left, Ticks, Family, tie, Tied, chained, looped}
 use Rattle.runs.specs.Joined.{Joined}
 use Rattle.runs.specs.Weights.{weight-at, Weighs}
+use Rattle.runs.specs.Computes.{never}
 use Rattle.runs.proofs.Ticks.{tie-empty}
 use Rattle.runs.proofs.Filled.{Filled, chained-filled}
 use Rattle.runs.proofs.Joined.{none, empty, one, same}
-use Rattle.runs.proofs.Forms.{tied-row, never, Starts}
+use Rattle.runs.proofs.Forms.{tied-row, Starts}
 use Rattle.runs.proofs.Weights.{Row, weighs-more, same-row}
 use Rattle.runs.proofs.Tied.{Since, tied-there, tied-back, since, tied}
 

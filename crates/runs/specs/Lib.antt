@@ -4,3 +4,7 @@ pub mod Joined
 pub mod Weights
 pub mod Beginnings
 pub mod Figure
+pub mod Arcs
+pub mod Computes
+pub mod OneShape
+pub mod Steps
