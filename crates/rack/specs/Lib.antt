@@ -6,3 +6,5 @@ pub mod Effects
 pub mod Tables
 pub mod Held
 pub mod Stops
+pub mod Book
+pub mod Promise
