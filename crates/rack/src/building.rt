@@ -9,7 +9,8 @@ ghost use Rattle.rows.specs.Rules.Rule.{rows as rows-of-rule};
 ghost use Rattle.runs.specs.declared.step.Step.the-variants.{Node as node-step, Pause as pause-step};
 ghost use Rattle.rack.specs.Effects.{Puts, Empties, Turns, node-row, pause-row};
 ghost use Rattle.rack.specs.Held.{state-of};
-ghost use Rattle.rack.specs.Stops.{Stopped};
+ghost use Rattle.rack.specs.Stops.{Stopped, stop-of};
+ghost use Rattle.rack.specs.Tables.{shelves-of, steps-of};
 
 use crate::core_state::Core;
 use crate::leaves::blank;
@@ -20,21 +21,80 @@ use crate::shelf::Shelf;
 use algebra::algebra::Algebra;
 use algebra::label::Label;
 use rows::outcome::Unkept;
-use rows::outcome::Unrolled;
 use rows::rule::RowRule;
 use rows::shape::Shape;
 use rows::unroll::unroll;
 use runs::step::Step;
 
-// Puts a leaf's rows on shelf k and records its step.
+// Records a step, and notes it with the shape of its rows on shelf k.
+fn settle<V: Algebra>(core: &mut Core<V>, k: usize, shape: Shape, step: Step)
+    requires { ⌜ k ≤ 15 ⌝ ∗ ⌜ now core .steps .count < 512 ⌝ }
+    ensures cells { λ _. ⌜ now (core .exit) .cells ≡ now (core .entry) .cells ⌝ }
+    ensures shelves { λ _. ⌜ shelves-of (now (core .exit) .shelves) ≡ set (shelves-of (now (core .entry) .shelves)) k (record { step = present (length (steps-of (now (core .entry) .steps))); transient = shape .transient; period = shape .period }) ⌝ }
+    ensures steps { λ _. ⌜ steps-of (now (core .exit) .steps) ≡ steps-of (now (core .entry) .steps) ++ step ∷ [] ⌝ }
+    ensures arcs { λ _. ⌜ now (core .exit) .arcs ≡ now (core .entry) .arcs ⌝ }
+{
+    let number = Some(core.steps.count);
+    core.shelves.put(k, Shelf { step: number, shape });
+    core.steps.push(step);
+}
+
+// Puts a node's rows on shelf k and records its step.
 pub fn put_node<V: Algebra>(core: &mut Core<V>, k: usize, label: Label)
     requires { ⌜ k ≤ 15 ⌝ ∗ ⌜ now core .steps .count < 512 ⌝ }
-    ensures does { λ _. ⌜ Puts model (node-row model label) k (node-step label) [] (state-of model means (now (core .entry))) (state-of model means (now (core .exit))) ⌝ }
+    ensures { λ _. ⌜ Puts model (node-row model label) k (node-step label) [] (state-of model means (now (core .entry))) (state-of model means (now (core .exit))) ⌝ }
 {
     let cells = std::mem::replace(&mut core.cells, &mut []);
     write_node(cells, k, label);
     core.cells = cells;
-    let step = Some(core.steps.count);
-    core.shelves.put(k, Shelf { step, shape: Shape { transient: 1, period: 1 } });
-    core.steps.push(Step::Node { label });
+    settle(core, k, Shape { transient: 1, period: 1 }, Step::Node { label });
+}
+
+// Puts a pause's rows on shelf k and records its step.
+pub fn put_pause<V: Algebra>(core: &mut Core<V>, k: usize, label: Label)
+    requires { ⌜ k ≤ 15 ⌝ ∗ ⌜ now core .steps .count < 512 ⌝ }
+    ensures { λ _. ⌜ Puts model (pause-row model label) k (pause-step label) [] (state-of model means (now (core .entry))) (state-of model means (now (core .exit))) ⌝ }
+{
+    let cells = std::mem::replace(&mut core.cells, &mut []);
+    write_pause(cells, k, label);
+    core.cells = cells;
+    settle(core, k, Shape { transient: 2, period: 1 }, Step::Pause { label });
+}
+
+// Empties shelf k.
+pub fn empty<V: Algebra>(core: &mut Core<V>, k: usize)
+    requires { ⌜ k ≤ 15 ⌝ }
+    ensures { λ _. ⌜ Empties model k (state-of model means (now (core .entry))) (state-of model means (now (core .exit))) ⌝ }
+{
+    let cells = std::mem::replace(&mut core.cells, &mut []);
+    blank(cells, k);
+    core.cells = cells;
+    core.shelves.put(k, Shelf::empty());
+}
+
+// The refusal for what unrolling found.
+fn stop(no: Unkept) -> Refusal
+    ensures { λ r. ⌜ r ≡ stop-of no ⌝ }
+{
+    match no {
+        Unkept::NeverSoon => Refusal::NeverRepeats,
+        Unkept::TooLong => Refusal::TooLong,
+    }
+}
+
+// Unrolls a rule onto shelf k and records its step; the reply is the number of the first repeated situation.
+pub fn build<R: RowRule, V: Algebra>(core: &mut Core<V>, rule: &R, k: usize, step: Step) -> Result<usize, Refusal>
+    requires { ⌜ k ≤ 15 ⌝ ∗ ⌜ now core .steps .count < 512 ⌝ }
+    ensures { λ r. ⌜ (let s = state-of (V·Algebra .model) (V·Algebra .means) (now (core .entry)) in let over = R·RowRule .works (now (rule .entry)) (V·Algebra .model) (s .cells) in Cases r (λ n. Turns (V·Algebra .model) over n × Puts (V·Algebra .model) (rows-of-rule over) k step [] s (state-of (V·Algebra .model) (V·Algebra .means) (now (core .exit)))) (λ no. Stopped over no × (state-of (V·Algebra .model) (V·Algebra .means) (now (core .exit)) ≡ s))) ⌝ }
+{
+    let cells = std::mem::replace(&mut core.cells, &mut []);
+    let kept = unroll(rule, cells, k);
+    core.cells = cells;
+    match kept {
+        Ok(unrolled) => {
+            settle(core, k, unrolled.shape, step);
+            Ok(unrolled.reply)
+        }
+        Err(found) => Err(stop(found)),
+    }
 }
