@@ -1,11 +1,20 @@
 -- When a call is refused for what unrolling finds.
+use mathlib.Core.List.{List}
+use mathlib.Core.Path.{_≡_}
+use Prim.Native.Nat.{ℕ}
+use Rattle.std.specs.declared.result.Result.{Result}
+use Rattle.std.specs.declared.result.Result.the-variants.{Ok, Err}
+use Rattle.algebra.specs.declared.arc.Arc.{Arc}
 use Rattle.algebra.specs.Model.{Model}
-use Rattle.rows.specs.Rules.Rule.{Rule}
+use Rattle.rows.specs.Rules.Rule.{Rule, rows}
 use Rattle.rows.specs.declared.outcome.Unkept.{Unkept}
 use Rattle.rows.specs.declared.outcome.Unkept.the-variants as found
 use Rattle.rows.specs.Unrolled as unrolled
+use Rattle.runs.specs.declared.step.Step.{Step}
 use Rattle.rack.specs.declared.refusal.Refusal.{Refusal}
 use Rattle.rack.specs.declared.refusal.Refusal.the-variants.{FewCells, NoShelf, SameShelf, ShelfTaken, ShelfEmpty, ManyCycles, BadArcs, StateWithoutArc, StepsFull, ArcsFull, LeavesAtOnce, NeverRepeats, TooLong}
+use Rattle.rack.specs.Effects.{Puts, Turns}
+use Rattle.rack.specs.State.{State}
 
 -- the refusal for what unrolling found
 abbrev pub stop-of : Unkept → Refusal
@@ -27,3 +36,8 @@ Stopped rule StateWithoutArc = ⊥
 Stopped rule StepsFull = ⊥
 Stopped rule ArcsFull = ⊥
 Stopped rule LeavesAtOnce = ⊥
+
+-- what unrolling a rule onto shelf k does, by its answer
+abbrev pub Built : (m : Model) → Rule m → (k : ℕ) → Step → List Arc → State m → State m → Result ℕ Refusal → Type 0
+Built m rule k step more s s′ (Ok n) = Turns m rule n × Puts m (rows rule) k step more s s′
+Built m rule k step more s s′ (Err found) = Stopped rule found × (s′ ≡ s)

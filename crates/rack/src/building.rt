@@ -2,14 +2,14 @@
 ghost use mathlib.Core.List.{[], _∷_, _++_};
 ghost use mathlib.Core.Path.{_≡_};
 ghost use Prim.Native.Nat.{_≤_, _<_};
-ghost use lib.ListN.{length, set, drop};
-ghost use Rattle.std.specs.Results.{Cases};
+ghost use denote.Ref.{now as held};
+ghost use lib.ListN.{length, set, take};
 ghost use Rattle.std.specs.declared.option.Option.the-variants.{Some as present};
-ghost use Rattle.rows.specs.Rules.Rule.{rows as rows-of-rule};
+ghost use Rattle.rows.specs.Pieces.{meanings};
 ghost use Rattle.runs.specs.declared.step.Step.the-variants.{Node as node-step, Pause as pause-step};
-ghost use Rattle.rack.specs.Effects.{Puts, Empties, Turns, node-row, pause-row};
+ghost use Rattle.rack.specs.Effects.{Puts, Empties, node-row, pause-row};
 ghost use Rattle.rack.specs.Held.{state-of};
-ghost use Rattle.rack.specs.Stops.{Stopped, stop-of};
+ghost use Rattle.rack.specs.Stops.{stop-of, Built};
 ghost use Rattle.rack.specs.Tables.{shelves-of, steps-of};
 
 use crate::core_state::Core;
@@ -85,7 +85,8 @@ fn stop(no: Unkept) -> Refusal
 // Unrolls a rule onto shelf k and records its step; the reply is the number of the first repeated situation.
 pub fn build<R: RowRule, V: Algebra>(core: &mut Core<V>, rule: &R, k: usize, step: Step) -> Result<usize, Refusal>
     requires { ⌜ k ≤ 15 ⌝ ∗ ⌜ now core .steps .count < 512 ⌝ }
-    ensures { λ r. ⌜ (let s = state-of (V·Algebra .model) (V·Algebra .means) (now (core .entry)) in let over = R·RowRule .works (now (rule .entry)) (V·Algebra .model) (s .cells) in Cases r (λ n. Turns (V·Algebra .model) over n × Puts (V·Algebra .model) (rows-of-rule over) k step [] s (state-of (V·Algebra .model) (V·Algebra .means) (now (core .exit)))) (λ no. Stopped over no × (state-of (V·Algebra .model) (V·Algebra .means) (now (core .exit)) ≡ s))) ⌝ }
+    ensures does { λ r. ⌜ Built (V·Algebra .model) (R·RowRule .works (now (rule .entry)) (V·Algebra .model) (meanings (V·Algebra .means) (take 2048 (held (now (core .entry) .cells))))) k step [] (state-of (V·Algebra .model) (V·Algebra .means) (now (core .entry))) (state-of (V·Algebra .model) (V·Algebra .means) (now (core .exit))) r ⌝ }
+    ensures arcs { λ _. ⌜ now (core .exit) .arcs ≡ now (core .entry) .arcs ⌝ }
 {
     let cells = std::mem::replace(&mut core.cells, &mut []);
     let kept = unroll(rule, cells, k);

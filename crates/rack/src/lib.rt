@@ -3,6 +3,7 @@ pub mod arcs;
 pub mod asks;
 pub mod building;
 pub mod call;
+pub mod composing;
 pub mod core_state;
 pub mod leaves;
 pub mod questions;

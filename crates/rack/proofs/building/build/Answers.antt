@@ -1,5 +1,5 @@
 use mathlib.Core.List.{List}
-use mathlib.Core.Path.{_≡_, sym, ap, subst, _∙_}
+use mathlib.Core.Path.{_≡_, refl, sym, ap, subst, _∙_}
 use native.Mathlib.Omega.{arith}
 use lib.ListN.{getD, take}
 use Rattle.std.proofs.shelf.Lists.{append-nil}
@@ -31,7 +31,7 @@ returns-in-Ok g c =
     let was = ap (λ r. r .now) (c .replace-cells .ensures .value) in
     let is = ap (λ r. r .now) (c .settle .ensures .cells) in
     let unrolled = subst (λ xs. Unrolls (over (meanings f (take 2048 xs))) (u .reply) k t d (meanings f (take 2048 (c .unroll-kept .last .cells)))) was (c .in-Ok .ensures tt .cases) in
-    ((unrolled .soon, unrolled .first), record {
+    record { does = ((unrolled .soon, unrolled .first), record {
       transient = t;
       period = d;
       short = u .shape .most;
@@ -41,7 +41,7 @@ returns-in-Ok g c =
       shelves = c .settle .ensures .shelves;
       steps = c .settle .ensures .steps;
       arcs = ap arcs-of (c .settle .ensures .arcs) ∙ sym (append-nil (arcs-of (core .arcs)));
-    })
+    }); arcs = c .settle .ensures .arcs }
 
 pub returns-in-Err : need.returns-in-Err
 returns-in-Err g c =
@@ -53,5 +53,5 @@ returns-in-Err g c =
     let refusal = c .in-Err .ensures tt .cases in
     let here = subst (λ xs. Refused (over (meanings f (take 2048 xs))) (c .in-Err .found)) was (refusal .0) in
     let same = ap (meanings f) (refusal .1 ∙ ap (take 2048) was) in
-    (subst (Stopped (over (meanings f (take 2048 (core .cells .now))))) (sym (c .stop .ensures)) (stopped (over (meanings f (take 2048 (core .cells .now)))) (c .in-Err .found) here),
-     λ i. record { cells = same i; shelves = shelves-of (core .shelves); steps = steps-of (core .steps); arcs = arcs-of (core .arcs) })
+    record { does = (subst (Stopped (over (meanings f (take 2048 (core .cells .now))))) (sym (c .stop .ensures)) (stopped (over (meanings f (take 2048 (core .cells .now)))) (c .in-Err .found) here),
+     λ i. record { cells = same i; shelves = shelves-of (core .shelves); steps = steps-of (core .steps); arcs = arcs-of (core .arcs) }); arcs = refl }
