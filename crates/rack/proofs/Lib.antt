@@ -2,3 +2,5 @@ pub mod Recording
 pub mod Elements
 pub mod Present
 pub mod LeafRows
+pub mod ShelfCells
+pub mod Alive
