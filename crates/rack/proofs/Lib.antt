@@ -4,3 +4,4 @@ pub mod Present
 pub mod LeafRows
 pub mod ShelfCells
 pub mod Alive
+pub mod Invariant
