@@ -5,3 +5,5 @@ pub mod LeafRows
 pub mod ShelfCells
 pub mod Alive
 pub mod Invariant
+pub mod NewStep
+pub mod EachCall
