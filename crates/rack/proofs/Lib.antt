@@ -7,3 +7,6 @@ pub mod Alive
 pub mod Invariant
 pub mod NewStep
 pub mod EachCall
+pub mod Reported
+pub mod OneMeaning
+pub mod Histories
