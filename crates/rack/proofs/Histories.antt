@@ -1,5 +1,5 @@
 -- The promise over whole histories, by induction over the events.
-use mathlib.Core.List.{List, _∷_}
+use mathlib.Core.List.{List, [], _∷_}
 use mathlib.Core.Path.{ap, subst, _∙_}
 use Prim.Native.Nat.{ℕ}
 use native.Mathlib.Omega.{arith}
@@ -14,7 +14,7 @@ use Rattle.runs.proofs.Rules.Lasting.{there as present-is}
 use Rattle.rack.specs.Book.{Pages, book}
 use Rattle.rack.specs.Calls.{Call, node, pause, table, pair, loop, clear, report, Reply, accepted, reported, refused, Event}
 use Rattle.rack.specs.Effects.{Does}
-use Rattle.rack.specs.Promise.{Fresh, Made, new, more, Replies, Answered, AsBooked, Told, AllTold, Kept, Promise}
+use Rattle.rack.specs.Promise.{Fresh, Made, new, more, Replies, Answered, AsBooked, Told, AllTold, Kept, Promise, Opening}
 use Rattle.rack.specs.State.{State, empty-shelf, shelf-at}
 use Rattle.rack.proofs.EachCall.{find, call-keeps}
 use Rattle.rack.proofs.Invariant.{PagedAt, Inv}
@@ -78,3 +78,6 @@ module _ (m : Model) where
 
       pub promise : Promise m
       promise h s s′ e made does = let next : Made m (e ∷ h) s′ = more e made does in (next, kept next)
+
+      pub opening : Opening m
+      opening s fresh = let made : Made m [] s = new fresh in (made, kept made)

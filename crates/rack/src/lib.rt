@@ -5,6 +5,7 @@ pub mod building;
 pub mod call;
 pub mod core_state;
 pub mod leaves;
+pub mod promise;
 pub mod questions;
 pub mod record;
 pub mod refusal;
