@@ -103,3 +103,7 @@ module _ (m : Model) where
   -- what each call promises: after any history it adds one event, and the promise holds
   abbrev pub Promise : Type 0
   Promise = (h : List (Event m)) (s s′ : State m) (e : Event m) → Made h s → Does m (e .call) (e .reply) s s′ → Made (e ∷ h) s′ × Kept (e ∷ h) s′
+
+  -- and of a rack just opened the promise holds before any call
+  abbrev pub Opening : Type 0
+  Opening = (s : State m) → Fresh s → Made [] s × Kept [] s

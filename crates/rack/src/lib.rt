@@ -6,6 +6,7 @@ pub mod call;
 pub mod composing;
 pub mod core_state;
 pub mod leaves;
+pub mod promise;
 pub mod questions;
 pub mod record;
 pub mod refusal;
