@@ -8,5 +8,7 @@ pub mod leaves;
 pub mod questions;
 pub mod record;
 pub mod refusal;
+pub mod report;
 pub mod shelf;
 pub mod tables;
+pub mod telling;
