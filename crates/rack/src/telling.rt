@@ -6,7 +6,7 @@ ghost use lib.ListN.{length, take};
 ghost use Rattle.std.specs.declared.option.Option.the-variants.{Some as present};
 ghost use Rattle.std.specs.Options.{mapped};
 ghost use Rattle.algebra.specs.Coefficients.{join as joined};
-ghost use Rattle.rows.specs.Pieces.{rows-of, meanings, pause-at, exit-at};
+ghost use Rattle.rows.specs.Pieces.{rows-of, meanings, size, pause-at, exit-at};
 ghost use Rattle.runs.specs.Figure.{figure as figure-of};
 ghost use Rattle.rack.specs.Effects.{FirstTick};
 ghost use Rattle.rack.specs.Told.{report-of};
@@ -21,7 +21,7 @@ use rows::piece::Row;
 fn both<V: Algebra>(piece: &Piece, cells: &[Option<V>], k: usize) -> Option<V>
     requires phase { ⌜ k < now piece .shape .transient + now piece .shape .period ⌝ }
     requires room { ⌜ 2048 ≤ length (now cells) ⌝ }
-    ensures { λ r. ⌜ mapped means r ≡ joined model (pause-at (rows-of model (meanings means (now (cells .entry))) (now (piece .entry))) k) (exit-at (rows-of model (meanings means (now (cells .entry))) (now (piece .entry))) k) ⌝ }
+    ensures { λ r. ⌜ (let given = rows-of model (meanings means (now (cells .entry))) (now (piece .entry)) in mapped means r ≡ joined model (pause-at given k) (exit-at given k)) ⌝ }
 {
     join(
         piece.at(Row::Pause, cells, k),
@@ -32,7 +32,7 @@ fn both<V: Algebra>(piece: &Piece, cells: &[Option<V>], k: usize) -> Option<V>
 // The join of both rows over all phases.
 fn figure<V: Algebra>(piece: &Piece, cells: &[Option<V>]) -> Option<V>
     requires { ⌜ 2048 ≤ length (now cells) ⌝ }
-    ensures { λ r. ⌜ mapped means r ≡ figure-of model (pause-at (rows-of model (meanings means (now (cells .entry))) (now (piece .entry)))) (exit-at (rows-of model (meanings means (now (cells .entry))) (now (piece .entry)))) (now (piece .entry) .shape .transient + now (piece .entry) .shape .period) ⌝ }
+    ensures { λ r. ⌜ (let given = rows-of model (meanings means (now (cells .entry))) (now (piece .entry)) in mapped means r ≡ figure-of model (pause-at given) (exit-at given) (size given)) ⌝ }
 {
     let mut all = None;
     for k in 0..piece.shape.size() {
@@ -45,7 +45,7 @@ fn figure<V: Algebra>(piece: &Piece, cells: &[Option<V>]) -> Option<V>
 fn first_tick<V: Algebra>(piece: &Piece, cells: &[Option<V>], figure: Option<V>) -> usize
     requires chooses { ⌜ model .chooses ≡ true ⌝ }
     requires room { ⌜ 2048 ≤ length (now cells) ⌝ }
-    requires whole { ⌜ mapped means figure ≡ figure-of model (pause-at (rows-of model (meanings means (now cells)) (now piece))) (exit-at (rows-of model (meanings means (now cells)) (now piece))) (now piece .shape .transient + now piece .shape .period) ⌝ }
+    requires whole { ⌜ (let given = rows-of model (meanings means (now cells)) (now piece) in mapped means figure ≡ figure-of model (pause-at given) (exit-at given) (size given)) ⌝ }
     ensures { λ r. ⌜ FirstTick model true (mapped means figure) (rows-of model (meanings means (now (cells .entry))) (now (piece .entry))) (present r) ⌝ }
 {
     for k in 0..piece.shape.size() {
@@ -59,7 +59,7 @@ fn first_tick<V: Algebra>(piece: &Piece, cells: &[Option<V>], figure: Option<V>)
 // The report of a piece on the shelves, which are the first 2,048 cells.
 pub fn report<V: Algebra>(cells: &[Option<V>], piece: Piece) -> Report<V>
     requires { ⌜ 2048 ≤ length (now cells) ⌝ }
-    ensures figure { λ r. ⌜ report-of model means r .figure ≡ figure-of model (pause-at (rows-of model (meanings means (take 2048 (now (cells .entry)))) piece)) (exit-at (rows-of model (meanings means (take 2048 (now (cells .entry)))) piece)) (piece .shape .transient + piece .shape .period) ⌝ }
+    ensures figure { λ r. ⌜ (let given = rows-of model (meanings means (take 2048 (now (cells .entry)))) piece in report-of model means r .figure ≡ figure-of model (pause-at given) (exit-at given) (size given)) ⌝ }
     ensures tick { λ r. ⌜ FirstTick model (model .chooses) (report-of model means r .figure) (rows-of model (meanings means (take 2048 (now (cells .entry)))) piece) (report-of model means r .tick) ⌝ }
     ensures transient { λ r. ⌜ report-of model means r .transient ≡ piece .shape .transient ⌝ }
     ensures period { λ r. ⌜ report-of model means r .period ≡ piece .shape .period ⌝ }
