@@ -48,9 +48,9 @@ fn first_tick<V: Algebra>(piece: &Piece, cells: &[Option<V>], figure: Option<V>)
     requires whole { ⌜ (let given = rows-of model (meanings means (now cells)) (now piece) in mapped means figure ≡ figure-of model (pause-at given) (exit-at given) (size given)) ⌝ }
     ensures { λ r. ⌜ FirstTick model true (mapped means figure) (rows-of model (meanings means (now (cells .entry))) (now (piece .entry))) (present r) ⌝ }
 {
-    for k in 0..piece.shape.size() {
-        if equal(both(piece, cells, k), figure) {
-            return k;
+    for tick in 0..piece.shape.size() {
+        if equal(both(piece, cells, tick), figure) {
+            return tick;
         }
     }
     unreachable()
