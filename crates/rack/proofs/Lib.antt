@@ -12,3 +12,4 @@ pub mod EachCall
 pub mod Reported
 pub mod OneMeaning
 pub mod Histories
+pub mod Reaching

@@ -8,3 +8,4 @@ pub mod Held
 pub mod Stops
 pub mod Book
 pub mod Promise
+pub mod Told

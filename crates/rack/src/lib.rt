@@ -10,5 +10,7 @@ pub mod promise;
 pub mod questions;
 pub mod record;
 pub mod refusal;
+pub mod report;
 pub mod shelf;
 pub mod tables;
+pub mod telling;
