@@ -13,3 +13,4 @@ pub mod Reported
 pub mod OneMeaning
 pub mod Histories
 pub mod Reaching
+pub mod Asking

@@ -1,4 +1,5 @@
 // The rack: shelves, steps and arcs behind calls that answer as the questions say.
+pub mod acting;
 pub mod arcs;
 pub mod asks;
 pub mod building;
@@ -10,6 +11,7 @@ pub mod promise;
 pub mod questions;
 pub mod record;
 pub mod refusal;
+pub mod reply;
 pub mod report;
 pub mod shelf;
 pub mod tables;
