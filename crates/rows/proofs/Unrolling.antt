@@ -87,10 +87,10 @@ pub shelf-keeps : (m : Model) {V : Type 0} (f : V → m .Carrier) (row : ℕ →
 shelf-keeps m f row before after shelf t d n filled fits few kept least = record {
   least = least;
   gives = λ tick.
-    let within = phase-within t d (least .positive) tick in
-    filled-at m f before after shelf (t + d) filled fits (phase t d tick) within
-    ∙ kept (phase t d tick) (omega arith)
-    ∙ sym (at-phase row t d (least .positive) (least .repeats) tick);
+      let within = phase-within t d (least .positive) tick in
+      filled-at m f before after shelf (t + d) filled fits (phase t d tick) within
+      ∙ kept (phase t d tick) (omega arith)
+      ∙ sym (at-phase row t d (least .positive) (least .repeats) tick);
   no-pause = λ k more less. filled-past m f before after shelf (t + d) filled fits k _ 2048 more (filled .pauses k less);
   no-exit = λ k more less. filled-past m f before after shelf (t + d) filled fits k _ 3072 more (filled .exits k less);
 }
@@ -111,8 +111,8 @@ pub kept-below : (m : Model) {V : Type 0} (f : V → m .Carrier) (row : ℕ → 
 kept-below m f row cells shelf t d low short keeps = record {
   least = keeps .least;
   gives = λ n.
-    let within = phase-within t d (keeps .least .positive) n in
-    (λ i. (below (128 * shelf + phase t d n) (omega arith) i, below (128 * shelf + 64 + phase t d n) (omega arith) i)) ∙ keeps .gives n;
+      let within = phase-within t d (keeps .least .positive) n in
+      (λ i. (below (128 * shelf + phase t d n) (omega arith) i, below (128 * shelf + 64 + phase t d n) (omega arith) i)) ∙ keeps .gives n;
   no-pause = λ k more less. below (128 * shelf + k) (omega arith) ∙ keeps .no-pause k more less;
   no-exit = λ k more less. below (128 * shelf + 64 + k) (omega arith) ∙ keeps .no-exit k more less;
 }

@@ -69,7 +69,7 @@ returns g c =
         soon = turn .0;
         first = record { earlier = (earlier, turn .1, turn .2); fresh = turn .3 };
         keeps = kept-below m f _ after shelf t d (omega arith)
-          (c .if-transient-period-gt64 .left)
-          (shelf-keeps m f (rows rule) before after shelf t d number filled (c .if-transient-period-gt64 .left) few (turn .4) least);
+            (c .if-transient-period-gt64 .left)
+            (shelf-keeps m f (rows rule) before after shelf t d number filled (c .if-transient-period-gt64 .left) few (turn .4) least);
       };
     }

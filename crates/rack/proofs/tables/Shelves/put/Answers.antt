@@ -1,6 +1,0 @@
-use Rattle.std.proofs.shelf.Lists.{map-set}
-use Rattle.rack.specs.Tables.{shelf-of}
-use Rattle.rack.proofs.tables.Shelves.put.Needs as need
-
-pub returns : need.returns
-returns c = map-set shelf-of (c .args .self .now .items) (c .args .k) (c .args .shelf)
