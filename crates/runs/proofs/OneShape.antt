@@ -24,7 +24,7 @@ own-phase t d pos k l = ⊎-elim
     (cases-lt k t)
 
 module _ {X : Type 0} where
-  repeats-too : (r r′ : ℕ → X) → ((n : ℕ) → r n ≡ r′ n) → (t d : ℕ) → Repeats r t d → Repeats r′ t d
+  pub repeats-too : (r r′ : ℕ → X) → ((n : ℕ) → r n ≡ r′ n) → (t d : ℕ) → Repeats r t d → Repeats r′ t d
   repeats-too r r′ same t d h n l = sym (same (n + d)) ∙ h n l ∙ same n
 
   -- the least shape of a row is no larger than that of an equal row

@@ -14,7 +14,7 @@ use Rattle.runs.specs.Weights.{JoinedRows}
 use Rattle.runs.proofs.Ages.{Lasting}
 use Rattle.runs.proofs.Earlier.{present-before}
 
-there : {X : Type 0} (c : Option X) → isSome c ≡ true → (x : X) × (c ≡ Some x)
+pub there : {X : Type 0} (c : Option X) → isSome c ≡ true → (x : X) × (c ≡ Some x)
 there None h = let z : _≡_ {A = ℕ} 0 1 = cc in absurd (omega arith)
 there (Some x) h = (x, refl)
 

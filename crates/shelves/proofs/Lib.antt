@@ -1,0 +1,16 @@
+pub mod Recording
+pub mod Elements
+pub mod Present
+pub mod LeafRows
+pub mod Unchanged
+pub mod Stopping
+pub mod ShelfCells
+pub mod Alive
+pub mod Invariant
+pub mod NewStep
+pub mod EachCall
+pub mod Reported
+pub mod OneMeaning
+pub mod Histories
+pub mod Reaching
+pub mod Asking

@@ -1,0 +1,11 @@
+pub mod Refusals
+pub mod State
+pub mod Calls
+pub mod Questions
+pub mod Effects
+pub mod Tables
+pub mod Held
+pub mod Stops
+pub mod Book
+pub mod Promise
+pub mod Told
