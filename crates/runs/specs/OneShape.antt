@@ -7,7 +7,7 @@ use lib.ListN.{getD}
 use Rattle.std.specs.declared.option.Option.the-variants.{None}
 use Rattle.algebra.specs.Model.{Model}
 use Rattle.algebra.specs.Coefficients.{Coef}
-use Rattle.rows.specs.Pieces.{Rows, pause-at, exit-at}
+use Rattle.rows.specs.Pieces.{on-shelf, given-at}
 use Rattle.rows.specs.Repeats.{LeastShape}
 
 -- pause and exit at each tick
@@ -25,17 +25,9 @@ module _ (m : Model) (cells : List (Coef m)) (shelf : ℕ) where
   abbrev pub cell : ℕ → Coef m
   cell i = getD cells (128 * shelf + i) None
 
-  abbrev pub shelf-rows : (transient period : ℕ) → Rows m
-  shelf-rows transient period = record {
-    transient = transient;
-    period = period;
-    p = λ k. getD cells (128 * shelf + k) None;
-    e = λ k. getD cells (128 * shelf + 64 + k) None;
-  }
-
   -- what the shelf gives at every tick
   abbrev pub given : (transient period : ℕ) → Pairs m
-  given transient period n = (pause-at (shelf-rows transient period) n, exit-at (shelf-rows transient period) n)
+  given transient period = given-at (on-shelf m cells shelf transient period)
 
   -- the shelf gives rows of which this is the least shape, and its cells past the shape are absent
   pub record Shelved (transient period : ℕ) : Type 0 where
