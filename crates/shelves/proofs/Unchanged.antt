@@ -24,3 +24,10 @@ others-mean f P before after same j out = ⊎-elim
   where
     none : (cells : List (Option _)) → 2048 ≤ j → getD (meanings f (take 2048 cells)) j None ≡ None
     none cells more = getD-past (meanings f (take 2048 cells)) j None (simp (length-map, length-take) (omega arith))
+
+-- cells that are absent mean nothing
+pub blank-mean : {V C : Type 0} (f : V → C) (cells : List (Option V)) → ((j : ℕ) → j < 4096 → getD cells j None ≡ None) → (j : ℕ) → getD (meanings f (take 2048 cells)) j None ≡ None
+blank-mean f cells blank j = ⊎-elim
+    (λ less. means-below f cells 2048 j less ∙ means-at f cells j ∙ ap (mapped f) (blank j (omega arith)))
+    (λ (more : 2048 ≤ j). getD-past (meanings f (take 2048 cells)) j None (simp (length-map, length-take) (omega arith)))
+    (cases-lt j 2048)
