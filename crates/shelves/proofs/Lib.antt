@@ -14,3 +14,4 @@ pub mod OneMeaning
 pub mod Histories
 pub mod Reaching
 pub mod Asking
+pub mod CallLists

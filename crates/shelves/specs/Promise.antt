@@ -107,3 +107,9 @@ module _ (m : Model) where
   -- and of a rack just opened the promise holds before any call
   abbrev pub Opening : Type 0
   Opening = (s : State m) → Fresh s → Made [] s × Kept [] s
+
+  -- the history after the calls with their replies, one after the other
+  abbrev pub after-calls : List Call → List (Reply m) → List (Event m) → List (Event m)
+  after-calls [] replies h = h
+  after-calls (c ∷ calls) [] h = h
+  after-calls (c ∷ calls) (r ∷ replies) h = after-calls calls replies (record { call = c; reply = r } ∷ h)

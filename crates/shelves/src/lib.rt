@@ -8,6 +8,7 @@ pub mod call;
 pub mod composing;
 pub mod core_state;
 pub mod leaves;
+pub mod listing;
 pub mod opening;
 pub mod promise;
 pub mod questions;
