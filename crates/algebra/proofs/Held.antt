@@ -1,7 +1,7 @@
 -- The laws of numbers up to a top, for every top.
 use mathlib.Core.Logic.{_⊎_, inl, inr}
 use mathlib.Core.Path.{_≡_, ap}
-use Prim.Native.Nat.{ℕ, _+_, _≤_}
+use Prim.Native.Nat.{ℕ, _≤_}
 use native.Mathlib.Bridge.{le-prop}
 use native.Mathlib.Decide.{decLe}
 use native.Mathlib.Omega.{arith}

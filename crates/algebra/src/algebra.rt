@@ -1,5 +1,5 @@
 // An algebra: values that labels weigh, joined over runs and added within a tick.
-ghost use mathlib.Core.Bool.{Bool, true};
+ghost use mathlib.Core.Bool.{true};
 ghost use mathlib.Core.Logic.{_⊎_};
 ghost use mathlib.Core.Path.{_≡_};
 ghost use Rattle.algebra.specs.Model.{Model};

@@ -1,5 +1,4 @@
 // A label: what one piece of code takes of a tick.
-ghost use mathlib.Core.Bool.{true};
 ghost use lib.Dec.{leb};
 ghost use mathlib.Core.Path.{_≡_};
 

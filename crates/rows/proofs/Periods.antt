@@ -1,6 +1,6 @@
 -- Rows that repeat: periods carried over the row, and how the least shape is known from one round.
-use mathlib.Core.Logic.{_⊎_, inl, inr, ⊎-elim}
-use mathlib.Core.Path.{_≡_, refl, sym, ap, _∙_}
+use mathlib.Core.Logic.{_⊎_, ⊎-elim}
+use mathlib.Core.Path.{_≡_, sym, ap, _∙_}
 use Prim.Native.Nat.{ℕ, zero, suc, _+_, _-_, _*_, _/_, _%_, _≤_, _<_}
 use native.Mathlib.Nat.{add-zero, suc-mul, zero-mul, div-add-mod', mul-le-mul-left, mul-one}
 use native.Mathlib.Omega.{arith}

@@ -1,6 +1,6 @@
 -- The phase of every tick: in its row, one after the other, and in closed form.
-use mathlib.Core.Logic.{_⊎_, inl, inr, ⊎-elim}
-use mathlib.Core.Path.{_≡_, refl, sym, ap, _∙_}
+use mathlib.Core.Logic.{_⊎_, ⊎-elim}
+use mathlib.Core.Path.{_≡_, refl, ap, _∙_}
 use Prim.Native.Nat.{ℕ, zero, suc, _+_, _-_, _%_, _≤_, _<_}
 use native.Mathlib.Nat.{suc-mod, mod-lt, mod-eq-of-lt, mod-self, zero-mod}
 use native.Mathlib.Omega.{arith}

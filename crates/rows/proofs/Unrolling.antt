@@ -10,13 +10,13 @@ use lib.ListN.{length, getD, take, drop}
 use Rattle.std.proofs.shelf.Lists.{getD-take, getD-drop, ext-getD, length-drop}
 use Rattle.std.proofs.shelf.Tests.{cases-lt, cond-true, cond-false, lt-ltb, le-ltb}
 use Rattle.std.specs.declared.option.Option.{Option}
-use Rattle.std.specs.declared.option.Option.the-variants.{None, Some}
+use Rattle.std.specs.declared.option.Option.the-variants.{None}
 use Rattle.std.specs.Options.{mapped}
 use Rattle.algebra.specs.Model.{Model}
 use Rattle.algebra.specs.Coefficients.{Coef}
 use Rattle.rows.specs.Filled.{Filled, kept-at}
 use Rattle.rows.specs.Phases.{phase}
-use Rattle.rows.specs.Pieces.{meanings, on-shelf, given-at}
+use Rattle.rows.specs.Pieces.{meanings}
 use Rattle.rows.specs.Repeats.{LeastShape}
 use Rattle.rows.specs.Rules.Rule.{Rule, at, rows}
 use Rattle.rows.specs.Unrolled.{Keeps}

@@ -1,7 +1,7 @@
 -- One number more in a join or an image over the numbers below a bound.
 use mathlib.Core.Bool.{Bool, true, false, cond}
-use mathlib.Core.Path.{_≡_, refl, sym, ap, _∙_}
-use Prim.Native.Nat.{ℕ, suc, _+_}
+use mathlib.Core.Path.{_≡_, ap, _∙_}
+use Prim.Native.Nat.{ℕ, _+_}
 use native.Mathlib.Numerals.{add-one}
 use Rattle.std.proofs.shelf.Tests.{cond-true, cond-false}
 use Rattle.algebra.specs.Model.{Model}

@@ -1,6 +1,6 @@
 -- Every call keeps the invariant, whatever its reply.
 use mathlib.Core.Bool.{true, false}
-use mathlib.Core.List.{List, [], _∷_, _++_}
+use mathlib.Core.List.{[]}
 use mathlib.Core.Path.{_≡_, refl, sym, ap, ap₂, subst}
 use Prim.Native.Nat.{ℕ, zero, suc, _≤_}
 use native.Mathlib.Omega.{arith}
@@ -11,7 +11,7 @@ use Rattle.std.proofs.shelf.Tests.{true≢false}
 use Rattle.algebra.specs.declared.label.Label.{Label}
 use Rattle.algebra.specs.Model.{Model, Laws}
 use Rattle.algebra.specs.Coefficients.{Coef}
-use Rattle.rows.specs.Pieces.{Rows, pause-at, exit-at}
+use Rattle.rows.specs.Pieces.{Rows, exit-at}
 use Rattle.rows.specs.Rules.Rule.{rows}
 use Rattle.rows.specs.Rules.Table as table-rule
 use Rattle.rows.specs.Rules.Loop as loop-rule

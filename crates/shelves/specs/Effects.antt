@@ -1,7 +1,7 @@
 -- What a call does, by its reply: the state afterwards as equations.
 use mathlib.Core.Bool.{Bool, true, false}
 use mathlib.Core.List.{List, [], _∷_, _++_}
-use mathlib.Core.Logic.{_⊎_, _≢_}
+use mathlib.Core.Logic.{_≢_}
 use mathlib.Core.Path.{_≡_}
 use Prim.Native.Nat.{ℕ, zero, suc, _+_, _*_, _≤_, _<_}
 use lib.ListN.{length, getD, set}
@@ -25,7 +25,7 @@ use Rattle.shelves.specs.declared.call.Pairing.the-variants.{Choice, Sequence,
 use Rattle.shelves.specs.Calls.{Call, node, pause, table, pair, loop, clear, report, Report, Reply, accepted, reported, refused}
 use Rattle.shelves.specs.Questions.{Yes, AllYes, FirstNo, pair-rule}
 use Rattle.shelves.specs.Refusals.{order}
-use Rattle.shelves.specs.State.{State, ShelfState, empty-shelf, shelf-at, shelf-rows}
+use Rattle.shelves.specs.State.{State, empty-shelf, shelf-at, shelf-rows}
 
 -- the rows of a node: its weight on exit at tick 0
 abbrev pub node-row : (m : Model) → Label → ℕ → Coef m × Coef m

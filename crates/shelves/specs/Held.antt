@@ -1,5 +1,4 @@
 -- The state of a rack, from what it holds.
-use mathlib.Core.List.{List}
 use denote.Ref.{now}
 use lib.ListN.{take}
 use Rattle.algebra.specs.Model.{Model}

@@ -1,5 +1,4 @@
 // Acting on a call whose questions before unrolling all said yes.
-ghost use mathlib.Core.Path.{_≡_};
 ghost use Rattle.shelves.specs.Calls.{node as node-call, pause as pause-call, table as table-call, pair as pair-call, loop as loop-call, clear as clear-call, report as report-call};
 ghost use Rattle.shelves.specs.Effects.{Does};
 ghost use Rattle.shelves.specs.Held.{state-of};

@@ -1,6 +1,5 @@
 // Answering a call: the first no of its questions, or what it does.
 ghost use mathlib.Core.List.{List, _∷_};
-ghost use mathlib.Core.Path.{_≡_};
 ghost use Rattle.shelves.specs.Calls.{Event};
 ghost use Rattle.shelves.specs.Effects.{Does};
 ghost use Rattle.shelves.specs.Held.{state-of, call-of};

@@ -1,4 +1,4 @@
-use mathlib.Core.Path.{_≡_, ap, refl}
+use mathlib.Core.Path.{ap, refl}
 use native.Mathlib.Omega.{arith}
 use Rattle.std.proofs.shelf.Tests.{false≢true}
 use Rattle.rows.specs.Pieces.{meanings}

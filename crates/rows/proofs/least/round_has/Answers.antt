@@ -1,5 +1,5 @@
 use mathlib.Core.Path.{_≡_, ap, sym, _∙_, refl}
-use Prim.Native.Nat.{ℕ, _+_}
+use Prim.Native.Nat.{_+_}
 use Rattle.rows.specs.Pieces.{meanings}
 use Rattle.rows.specs.Search.{noted, folded}
 use Rattle.rows.proofs.Ranges.{up-to}

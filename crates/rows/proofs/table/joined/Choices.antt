@@ -1,6 +1,5 @@
 use mathlib.Core.Path.{_≡_}
-use Prim.Native.Nat.{_≤_}
-use lib.ListN.{drop, length}
+use lib.ListN.{drop}
 use Rattle.std.specs.Options.{mapped}
 use Rattle.algebra.specs.Coefficients.{join}
 use Rattle.rows.specs.Rules.Table.{weights}

@@ -1,10 +1,9 @@
 use mathlib.Core.Logic.{inr}
-use mathlib.Core.Path.{_≡_, sym, ap, _∙_}
-use Prim.Native.Nat.{ℕ, _+_, _≤_}
+use mathlib.Core.Path.{ap, _∙_}
+use Prim.Native.Nat.{_+_, _≤_}
 use native.Mathlib.Omega.{arith}
-use lib.ListN.{take, drop}
+use lib.ListN.{take}
 use Rattle.rows.specs.Pieces.{meanings}
-use Rattle.rows.specs.Repeats.{LeastShape}
 use Rattle.rows.specs.Rules.Rule.{rows}
 use Rattle.rows.specs.Search.{noted}
 use Rattle.rows.proofs.Unrolling.{shape-of, agree-below, shelf-keeps, same-past, kept-below}

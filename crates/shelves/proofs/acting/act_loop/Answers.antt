@@ -1,15 +1,14 @@
 use mathlib.Core.List.{[], _∷_}
-use mathlib.Core.Path.{_≡_, refl, sym, ap, _∙_}
+use mathlib.Core.Path.{sym, ap, _∙_}
 use Prim.Native.Nat.{ℕ}
 use Rattle.std.specs.declared.option.Option.{Option}
 use Rattle.std.specs.declared.option.Option.the-variants.{Some}
 use Rattle.std.specs.Options.{valueOr}
-use Rattle.rows.specs.Rules.Table as table-rule
 use Rattle.rows.specs.Rules.Loop as loop-rule
 use Rattle.shelves.specs.declared.refusal.Refusal.the-variants.{NeverRepeats, TooLong}
-use Rattle.shelves.specs.Calls.{table, loop, pair}
+use Rattle.shelves.specs.Calls.{loop}
 use Rattle.shelves.specs.Held.{state-of}
-use Rattle.shelves.specs.Questions.{Yes, pair-rule}
+use Rattle.shelves.specs.Questions.{Yes}
 use Rattle.shelves.specs.Refusals.{early}
 use Rattle.shelves.specs.State.{ShelfState, shelf-rows, shelf-at}
 use Rattle.shelves.proofs.Asking.{all-then, no-after, stop-no, there}

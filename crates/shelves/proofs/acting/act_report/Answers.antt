@@ -1,5 +1,5 @@
 use mathlib.Core.List.{[], _∷_}
-use mathlib.Core.Path.{_≡_, refl, sym, ap, subst, _∙_}
+use mathlib.Core.Path.{_≡_, refl, ap, subst, _∙_}
 use lib.ListN.{take}
 use Rattle.rows.specs.Pieces.{Rows, meanings, on-shelf, pause-at, exit-at, size}
 use Rattle.runs.specs.Figure.{figure}

@@ -1,14 +1,11 @@
 use mathlib.Core.List.{[], _∷_}
-use mathlib.Core.Path.{_≡_, refl, sym, ap, _∙_}
 use Rattle.rows.specs.Rules.Table as table-rule
-use Rattle.rows.specs.Rules.Loop as loop-rule
 use Rattle.shelves.specs.declared.refusal.Refusal.the-variants.{NeverRepeats, TooLong}
-use Rattle.shelves.specs.Calls.{table, loop, pair}
+use Rattle.shelves.specs.Calls.{table}
 use Rattle.shelves.specs.Held.{state-of}
-use Rattle.shelves.specs.Questions.{Yes, pair-rule}
+use Rattle.shelves.specs.Questions.{Yes}
 use Rattle.shelves.specs.Refusals.{early}
-use Rattle.shelves.specs.State.{shelf-rows, shelf-at}
-use Rattle.shelves.proofs.Asking.{all-then, no-after, stop-no}
+use Rattle.shelves.proofs.Asking.{no-after, stop-no}
 use Rattle.shelves.proofs.acting.act_table.Needs as need
 
 pub returns-in-Err : need.returns-in-Err

@@ -1,11 +1,10 @@
-use mathlib.Core.Path.{_≡_, refl, sym, subst}
+use mathlib.Core.Path.{_≡_, subst}
 use lib.ListN.{getD}
 use Rattle.std.proofs.shelf.Elements.{all-more}
 use Rattle.std.proofs.shelf.Lists.{take-all}
-use Rattle.std.proofs.shelf.Tests.{false≢true, eqb-true, eqb-false}
+use Rattle.std.proofs.shelf.Tests.{false≢true}
 use Rattle.std.specs.shelf.Lists.{All}
 use Rattle.algebra.specs.declared.arc.Arc.{Arc}
-use borrow.Author.Needs.{needs}
 use Rattle.shelves.proofs.Elements.{passes, among-at, all-among}
 use Rattle.shelves.proofs.arcs.begun.Needs as need
 

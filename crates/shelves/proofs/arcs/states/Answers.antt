@@ -1,6 +1,6 @@
-use mathlib.Core.Logic.{inl, inr, ⊎-elim, _⊎_}
-use mathlib.Core.Path.{_≡_, sym, subst, ap}
-use Prim.Native.Nat.{ℕ, _<_, _≤_}
+use mathlib.Core.Logic.{⊎-elim, _⊎_}
+use mathlib.Core.Path.{sym, subst}
+use Prim.Native.Nat.{_≤_}
 use native.Mathlib.Omega.{arith}
 use lib.ListN.{getD, take}
 use Rattle.std.proofs.shelf.Lists.{take-all}

@@ -1,6 +1,5 @@
 use mathlib.Core.List.{List}
-use mathlib.Core.Path.{_≡_, refl, sym, ap, subst, _∙_}
-use native.Mathlib.Omega.{arith}
+use mathlib.Core.Path.{refl, sym, ap, subst, _∙_}
 use lib.ListN.{getD, take}
 use Rattle.std.proofs.shelf.Lists.{append-nil}
 use Rattle.std.specs.declared.option.Option.the-variants.{None}

@@ -1,4 +1,4 @@
-use mathlib.Core.Path.{_≡_, subst}
+use mathlib.Core.Path.{subst}
 use lib.ListN.{take}
 use Rattle.rows.specs.Pieces.{Rows, meanings, on-shelf}
 use Rattle.rows.specs.Rules.Loop.{loop}

@@ -1,5 +1,5 @@
 use mathlib.Core.List.{[]}
-use mathlib.Core.Path.{_≡_, sym, subst}
+use mathlib.Core.Path.{sym, subst}
 use lib.ListN.{take}
 use Rattle.rows.specs.Pieces.{Rows, meanings, on-shelf, rows-of}
 use Rattle.rows.specs.Rules.Choice.{choice}

@@ -2,7 +2,7 @@ use mathlib.Core.Path.{refl, ap}
 use native.Mathlib.Omega.{arith}
 use Rattle.std.specs.declared.option.Option.the-variants.{None, Some}
 use Rattle.shelves.specs.Effects.{pause-row}
-use Rattle.shelves.proofs.LeafRows.{pause-shape, Noting, noting-none, noting-more, noting-kept, fill-others, fill-past}
+use Rattle.shelves.proofs.LeafRows.{pause-shape, noting-none, noting-more, noting-kept, fill-others, fill-past}
 use Rattle.shelves.proofs.leaves.write_pause.Needs as need
 
 pub returns : need.returns

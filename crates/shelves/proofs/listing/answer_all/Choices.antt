@@ -1,6 +1,6 @@
 use mathlib.Core.List.{List, map}
 use mathlib.Core.Path.{_≡_}
-use lib.ListN.{length, take, drop}
+use lib.ListN.{take, drop}
 use Rattle.shelves.specs.Calls.{Event}
 use Rattle.shelves.specs.Held.{state-of, call-of}
 use Rattle.shelves.specs.Promise.{Made, after-calls}

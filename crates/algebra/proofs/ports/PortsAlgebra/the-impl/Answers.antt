@@ -1,5 +1,3 @@
-use mathlib.Core.Path.{_≡_}
-use Prim.Native.Nat.{ℕ}
 use lib.Bits.{or-comm, or-self, or-zero-r}
 use Rattle.std.proofs.shelf.Tests.{false≢true}
 use Rattle.algebra.proofs.Bits.{or-assoc, or-or}

@@ -1,4 +1,4 @@
-use mathlib.Core.Path.{_≡_, ap, sym, _∙_}
+use mathlib.Core.Path.{ap, sym, _∙_}
 use Rattle.std.specs.Options.{mapped}
 use Rattle.algebra.specs.Coefficients.{join}
 use Rattle.rows.specs.Pieces.{rows-of, meanings, row}
