@@ -8,7 +8,7 @@ use crate::algebra::Algebra;
 
 // Absent joined with anything is that thing.
 pub fn join<V: Algebra>(a: Option<V>, b: Option<V>) -> Option<V>
-    ensures { option_map means result ≡ joined model (option_map means a) (option_map means b) }
+    ensures { option_map V.means result ≡ joined V.model (option_map V.means a) (option_map V.means b) }
 {
     match (a, b) {
         (None, _) => b,
@@ -19,7 +19,7 @@ pub fn join<V: Algebra>(a: Option<V>, b: Option<V>) -> Option<V>
 
 // Absent added to anything is absent.
 pub fn add<V: Algebra>(a: Option<V>, b: Option<V>) -> Option<V>
-    ensures { option_map means result ≡ added model (option_map means a) (option_map means b) }
+    ensures { option_map V.means result ≡ added V.model (option_map V.means a) (option_map V.means b) }
 {
     match (a, b) {
         (None, _) => None,
@@ -30,14 +30,14 @@ pub fn add<V: Algebra>(a: Option<V>, b: Option<V>) -> Option<V>
 
 // The unit where the mark is set, else absent.
 pub fn mark<V: Algebra>(set: bool) -> Option<V>
-    ensures { option_map means result ≡ marked model set }
+    ensures { option_map V.means result ≡ marked V.model set }
 {
     if set { Some(V::unit()) } else { None }
 }
 
 // Do the two mean the same?
 pub fn equal<V: Algebra>(a: Option<V>, b: Option<V>) -> bool
-    ensures { Decides result (option_map means a ≡ option_map means b) }
+    ensures { Decides result (option_map V.means a ≡ option_map V.means b) }
 {
     match (a, b) {
         (None, None) => true,
@@ -49,6 +49,6 @@ pub fn equal<V: Algebra>(a: Option<V>, b: Option<V>) -> bool
 
 // Coefficients keep the laws of their algebra, and absent is what a join leaves alone.
 pub fn laws_stand<V: Algebra>() -> ()
-    ensures algebra { Laws model }
-    ensures coefficients { CoefLaws model }
+    ensures algebra { Laws V.model }
+    ensures coefficients { CoefLaws V.model }
 {}

@@ -18,7 +18,7 @@ pub fn analyse<V: Algebra>(
     bytes: &[u8],
     cells: &mut [Option<V>],
 ) -> Result<Result<Report<V>, Fault>, AllocError>
-    ensures { IfOk result (λ found. Analysed model (length cells.old) bytes.now (found_of model means found)) }
+    ensures { IfOk result (λ found. Analysed V.model (length cells.old) bytes.now (found_of V.model V.means found)) }
 {
     if !enough(cells) {
         return Ok(Err(Fault {

@@ -13,7 +13,7 @@ use rack::rack::Rack;
 use shelves::refusal::Refusal;
 
 fn perform<V: Algebra>(rack: &mut Rack<V>, of: &Record) -> Result<usize, Refusal>
-    ensures { Answers model (as_call (entry of.now)) (answered model result) (state_of model means rack.old.core) (state_of model means rack.new.core) }
+    ensures { Answers V.model (as_call (entry of.now)) (answered V.model result) (state_of V.model V.means rack.old.core) (state_of V.model V.means rack.new.core) }
 {
     match of {
         Record::Node { shelf, label } => rack.node(*shelf, *label),
@@ -37,7 +37,7 @@ pub struct Taken {
 
 // Performs records up to the first that is refused.
 pub(crate) fn take_all<V: Algebra>(rack: &mut Rack<V>, records: &[Record]) -> Taken
-    ensures { Took model (map entry records.now) (state_of model means rack.old.core) (state_of model means rack.new.core) result.accepted result.refusal }
+    ensures { Took V.model (map entry records.now) (state_of V.model V.means rack.old.core) (state_of V.model V.means rack.new.core) result.accepted result.refusal }
 {
     for i in 0..records.len() {
         match perform(rack, &records[i]) {

@@ -10,7 +10,7 @@ use shelves::report::Report;
 
 // The report of the one filled shelf, or None where not exactly one is filled.
 pub(crate) fn sole<V: Algebra>(rack: &Rack<V>) -> Option<Report<V>>
-    ensures { MatchOption result ((k : ℕ) → Only model (state_of model means rack.now.core) k → ⊥) (λ told. Sole model (state_of model means rack.now.core) (report_of model means told)) }
+    ensures { MatchOption result ((k : ℕ) → Only V.model (state_of V.model V.means rack.now.core) k → ⊥) (λ told. Sole V.model (state_of V.model V.means rack.now.core) (report_of V.model V.means told)) }
 {
     let mut found = None;
     for k in 0..16 {

@@ -14,7 +14,7 @@ use shelves::report::Report;
 
 // Runs every record as its call and reports the one filled shelf. A file that is refused leaves what its accepted records made.
 pub fn work<V: Algebra>(rack: &mut Rack<V>, listing: &Listing) -> Result<Report<V>, Fault>
-    ensures { Works model (map entry listing.now.records.items) listing.now.refusal (state_of model means rack.old.core) (state_of model means rack.new.core) (found_of model means result) }
+    ensures { Works V.model (map entry listing.now.records.items) listing.now.refusal (state_of V.model V.means rack.old.core) (state_of V.model V.means rack.new.core) (found_of V.model V.means result) }
 {
     let taken = take_all(rack, listing.records.as_slice());
     let accepted = taken.accepted;

@@ -15,8 +15,8 @@ use tickets::ticket_rack::TicketRack;
 
 // Clears a ticket that names a filled shelf, which is never refused.
 pub fn end<V: Algebra>(rack: &mut TicketRack<V>, ticket: Ticket)
-    requires { Names (state_of model means rack.old.core) ticket }
-    ensures { (other : Ticket) → other.shelf ≢ ticket.shelf → Names (state_of model means rack.old.core) other → Names (state_of model means rack.new.core) other }
+    requires { Names (state_of V.model V.means rack.old.core) ticket }
+    ensures { (other : Ticket) → other.shelf ≢ ticket.shelf → Names (state_of V.model V.means rack.old.core) other → Names (state_of V.model V.means rack.new.core) other }
 {
     match rack.clear(ticket) {
         Ok(_) => {}
@@ -30,10 +30,10 @@ fn fork<V: Algebra>(
     first: Ticket,
     second: Ticket,
 ) -> Result<Ticket, Refusal>
-    requires { (second.shelf ≢ first.shelf) × ((Names (state_of model means rack.old.core) first) × (Names (state_of model means rack.old.core) second)) }
-    ensures names { IfOk result (λ ticket. Names (state_of model means rack.new.core) ticket) }
+    requires { (second.shelf ≢ first.shelf) × ((Names (state_of V.model V.means rack.old.core) first) × (Names (state_of V.model V.means rack.old.core) second)) }
+    ensures names { IfOk result (λ ticket. Names (state_of V.model V.means rack.new.core) ticket) }
     ensures ticket { IfOk result (λ ticket. ticket ≡ first) }
-    ensures answers { OnOk result ((n : ℕ) × Answers model (pair kind.Fork first.shelf second.shelf) (accepted n) (state_of model means rack.old.core) (state_of model means rack.new.core)) }
+    ensures answers { OnOk result ((n : ℕ) × Answers V.model (pair kind.Fork first.shelf second.shelf) (accepted n) (state_of V.model V.means rack.old.core) (state_of V.model V.means rack.new.core)) }
 {
     match rack.fork(first, second) {
         Ok(built) => {
@@ -55,8 +55,8 @@ pub fn build<V: Algebra>(
     sweep: &[Arc],
     radar: &[Arc],
 ) -> Result<Ticket, Refusal>
-    ensures names { IfOk result (λ ticket. Names (state_of model means rack.new.core) ticket) }
-    ensures plan { IfOk result (λ ticket. (h : List (Event model)) → Made model h (state_of model means rack.old.core) → HoldsPlan model (state_of model means rack.new.core) ticket.shelf (side_by_side sweep.now radar.now)) }
+    ensures names { IfOk result (λ ticket. Names (state_of V.model V.means rack.new.core) ticket) }
+    ensures plan { IfOk result (λ ticket. (h : List (Event V.model)) → Made V.model h (state_of V.model V.means rack.old.core) → HoldsPlan V.model (state_of V.model V.means rack.new.core) ticket.shelf (side_by_side sweep.now radar.now)) }
 {
     let built = rack.table(0, sweep)?;
     let Built {

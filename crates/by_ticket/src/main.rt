@@ -1,4 +1,6 @@
 // Builds two threads by ticket, and prints the line of their worst tick.
+#![tactic(auto)]
+
 mod build;
 
 ghost use Rattle.std.specs.Prelude.{◌≤◌, length, IfOk};
@@ -64,7 +66,7 @@ fn look<V: Algebra>(
     radar: &[Arc],
 ) -> Result<Report<V>, Refusal>
     requires { 4096 ≤ length cells.old }
-    ensures { IfOk result (λ report. Figured model (side_by_side sweep.now radar.now) (report_of model means report)) }
+    ensures { IfOk result (λ report. Figured V.model (side_by_side sweep.now radar.now) (report_of V.model V.means report)) }
 {
     let mut rack = TicketRack::open(cells);
     let ticket = build(&mut rack, sweep, radar)?;

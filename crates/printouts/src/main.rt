@@ -1,4 +1,6 @@
 // Analyses each program file that its arguments name, and compares what is printed with the text beside the file.
+#![tactic(auto)]
+
 use lines::printout::printout;
 use std::{env, fs, io};
 

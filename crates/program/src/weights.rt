@@ -8,7 +8,7 @@ use algebra::algebra::Algebra;
 use algebra::arc::Arc;
 
 fn add_arcs<V: Algebra>(start: V, arcs: &[Arc]) -> V
-    ensures { means result ≡ added model (means start) (map (λ a. a.label) arcs.now) }
+    ensures { V.means result ≡ added V.model (V.means start) (map (λ a. a.label) arcs.now) }
 {
     let mut sum = start;
     for arc in arcs {
@@ -18,7 +18,7 @@ fn add_arcs<V: Algebra>(start: V, arcs: &[Arc]) -> V
 }
 
 fn add_labels<V: Algebra>(start: V, more: &Record) -> V
-    ensures { means result ≡ added model (means start) (labels (entry more.now)) }
+    ensures { V.means result ≡ added V.model (V.means start) (labels (entry more.now)) }
 {
     match more {
         Record::Node { label, .. } => start.add(V::weigh(*label)),
@@ -32,7 +32,7 @@ fn add_labels<V: Algebra>(start: V, more: &Record) -> V
 
 // The unit with the weight of every label added, in order.
 pub fn weight<V: Algebra>(records: &[Record]) -> V
-    ensures { means result ≡ added model model.unit (all_labels records.now) }
+    ensures { V.means result ≡ added V.model V.model.unit (all_labels records.now) }
 {
     let mut sum = V::unit();
     for item in records {

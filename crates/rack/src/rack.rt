@@ -31,70 +31,70 @@ impl<'a, V: Algebra> Rack<'a, V> {
         requires { 4096 ≤ length cells.old }
         ensures blank { (j : ℕ) → j < 4096 → slice_index_or result.core.cells.now j absent ≡ absent }
         ensures past { drop 4096 result.core.cells.now ≡ drop 4096 cells.old }
-        ensures fresh { Fresh model (state_of model means result.core) }
-        ensures promise { Made model [] (state_of model means result.core) × Kept model [] (state_of model means result.core) }
+        ensures fresh { Fresh V.model (state_of V.model V.means result.core) }
+        ensures promise { Made V.model [] (state_of V.model V.means result.core) × Kept V.model [] (state_of V.model V.means result.core) }
     {
         Rack { core: open(cells) }
     }
 
     pub fn node(&mut self, shelf: u8, label: Label) -> Result<usize, Refusal>
-        ensures { Answers model (Node-call shelf label) (answered model result) (state_of model means self.old.core) (state_of model means self.new.core) }
+        ensures { Answers V.model (Node-call shelf label) (answered V.model result) (state_of V.model V.means self.old.core) (state_of V.model V.means self.new.core) }
     {
         change(&mut self.core, Call::node(shelf, label))
     }
 
     pub fn pause(&mut self, shelf: u8, label: Label) -> Result<usize, Refusal>
-        ensures { Answers model (pause_call shelf label) (answered model result) (state_of model means self.old.core) (state_of model means self.new.core) }
+        ensures { Answers V.model (pause_call shelf label) (answered V.model result) (state_of V.model V.means self.old.core) (state_of V.model V.means self.new.core) }
     {
         change(&mut self.core, Call::pause(shelf, label))
     }
 
     pub fn table(&mut self, shelf: u8, arcs: &[Arc]) -> Result<usize, Refusal>
-        ensures { Answers model (table_call shelf arcs.now) (answered model result) (state_of model means self.old.core) (state_of model means self.new.core) }
+        ensures { Answers V.model (table_call shelf arcs.now) (answered V.model result) (state_of V.model V.means self.old.core) (state_of V.model V.means self.new.core) }
     {
         change(&mut self.core, Call::table(shelf, arcs))
     }
 
     pub fn choice(&mut self, first: u8, second: u8) -> Result<usize, Refusal>
-        ensures { Answers model (pair_call kind.Choice first second) (answered model result) (state_of model means self.old.core) (state_of model means self.new.core) }
+        ensures { Answers V.model (pair_call kind.Choice first second) (answered V.model result) (state_of V.model V.means self.old.core) (state_of V.model V.means self.new.core) }
     {
         change(&mut self.core, Call::pair(Pairing::Choice, first, second))
     }
 
     pub fn sequence(&mut self, first: u8, second: u8) -> Result<usize, Refusal>
-        ensures { Answers model (pair_call kind.Sequence first second) (answered model result) (state_of model means self.old.core) (state_of model means self.new.core) }
+        ensures { Answers V.model (pair_call kind.Sequence first second) (answered V.model result) (state_of V.model V.means self.old.core) (state_of V.model V.means self.new.core) }
     {
         change(&mut self.core, Call::pair(Pairing::Sequence, first, second))
     }
 
     pub fn fork(&mut self, first: u8, second: u8) -> Result<usize, Refusal>
-        ensures { Answers model (pair_call kind.Fork first second) (answered model result) (state_of model means self.old.core) (state_of model means self.new.core) }
+        ensures { Answers V.model (pair_call kind.Fork first second) (answered V.model result) (state_of V.model V.means self.old.core) (state_of V.model V.means self.new.core) }
     {
         change(&mut self.core, Call::pair(Pairing::Fork, first, second))
     }
 
     pub fn abort(&mut self, first: u8, second: u8) -> Result<usize, Refusal>
-        ensures { Answers model (pair_call kind.Abort first second) (answered model result) (state_of model means self.old.core) (state_of model means self.new.core) }
+        ensures { Answers V.model (pair_call kind.Abort first second) (answered V.model result) (state_of V.model V.means self.old.core) (state_of V.model V.means self.new.core) }
     {
         change(&mut self.core, Call::pair(Pairing::Abort, first, second))
     }
 
     // The call loop, whose name is a word of the language.
     pub fn repeat(&mut self, shelf: u8) -> Result<usize, Refusal>
-        ensures { Answers model (loop_call shelf) (answered model result) (state_of model means self.old.core) (state_of model means self.new.core) }
+        ensures { Answers V.model (loop_call shelf) (answered V.model result) (state_of V.model V.means self.old.core) (state_of V.model V.means self.new.core) }
     {
         change(&mut self.core, Call::repeat(shelf))
     }
 
     pub fn clear(&mut self, shelf: u8) -> Result<usize, Refusal>
-        ensures { Answers model (clear_call shelf) (answered model result) (state_of model means self.old.core) (state_of model means self.new.core) }
+        ensures { Answers V.model (clear_call shelf) (answered V.model result) (state_of V.model V.means self.old.core) (state_of V.model V.means self.new.core) }
     {
         change(&mut self.core, Call::clear(shelf))
     }
 
     // Report only looks.
     pub fn report(&self, shelf: u8) -> Result<Report<V>, Refusal>
-        ensures { Answers model (report_call shelf) (shown model means result) (state_of model means self.now.core) (state_of model means self.now.core) }
+        ensures { Answers V.model (report_call shelf) (shown V.model V.means result) (state_of V.model V.means self.now.core) (state_of V.model V.means self.now.core) }
     {
         look(&self.core, shelf)
     }
@@ -103,7 +103,7 @@ impl<'a, V: Algebra> Rack<'a, V> {
     pub fn run(&mut self, calls: &[Call], replies: &mut [Reply<V>]) -> usize
         ensures count { result ≡ min (length calls.now) (length replies.old) }
         ensures rest { drop result replies.new ≡ drop result replies.old }
-        ensures answers { AnswersAll model (map call_of (take result calls.now)) (map (reply_of model means) (take result replies.new)) (state_of model means self.old.core) (state_of model means self.new.core) }
+        ensures answers { AnswersAll V.model (map call_of (take result calls.now)) (map (reply_of V.model V.means) (take result replies.new)) (state_of V.model V.means self.old.core) (state_of V.model V.means self.new.core) }
     {
         answer_all(&mut self.core, calls, replies)
     }

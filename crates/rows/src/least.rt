@@ -10,7 +10,7 @@ use algebra::coefficient::equal;
 fn same<V: Algebra>(cells: &[Option<V>], j: usize, k: usize) -> bool
     requires room { 4096 ≤ length cells.now }
     requires ticks { (j < 1024) × (k < 1024) }
-    ensures { Decides result (noted model (meanings means cells.now) j ≡ noted model (meanings means cells.now) k) }
+    ensures { Decides result (noted V.model (meanings V.means cells.now) j ≡ noted V.model (meanings V.means cells.now) k) }
 {
     let pauses = equal(cells[2048 + j], cells[2048 + k]);
     let exits = equal(cells[3072 + j], cells[3072 + k]);
@@ -29,7 +29,7 @@ fn folded(i: usize, n: usize, k: usize) -> usize
 fn round_has<V: Algebra>(cells: &[Option<V>], i: usize, n: usize, d: usize) -> bool
     requires room { 4096 ≤ length cells.now }
     requires round { (i < n) × ((n < 1024) × (d ≤ n - i)) }
-    ensures { Decides result (RoundHas (noted model (meanings means cells.now)) i n d) }
+    ensures { Decides result (RoundHas (noted V.model (meanings V.means cells.now)) i n d) }
 {
     for k in i..n {
         if !same(cells, folded(i, n, k + d), k) {
@@ -43,7 +43,7 @@ fn round_has<V: Algebra>(cells: &[Option<V>], i: usize, n: usize, d: usize) -> b
 pub fn least_period<V: Algebra>(cells: &[Option<V>], i: usize, n: usize) -> usize
     requires room { 4096 ≤ length cells.now }
     requires round { (i < n) × (n < 1024) }
-    ensures { LeastPeriod (noted model (meanings means cells.now)) i n result }
+    ensures { LeastPeriod (noted V.model (meanings V.means cells.now)) i n result }
 {
     for d in 1..n - i {
         if round_has(cells, i, n, d) {
@@ -57,7 +57,7 @@ pub fn least_period<V: Algebra>(cells: &[Option<V>], i: usize, n: usize) -> usiz
 pub fn least_transient<V: Algebra>(cells: &[Option<V>], i: usize, d: usize) -> usize
     requires room { 4096 ≤ length cells.now }
     requires round { i + d < 1024 }
-    ensures { LeastTransient (noted model (meanings means cells.now)) i d result }
+    ensures { LeastTransient (noted V.model (meanings V.means cells.now)) i d result }
 {
     for k in (0..i).rev() {
         if !same(cells, k + d, k) {

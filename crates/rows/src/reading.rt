@@ -14,7 +14,7 @@ impl Piece {
     pub fn at<V: Algebra>(&self, row: Row, cells: &[Option<V>], k: usize) -> Option<V>
         requires phase { k < self.now.shape.transient + self.now.shape.period }
         requires room { 2048 ≤ length cells.now }
-        ensures { option_map means result ≡ row_of (rows_of model (meanings means cells.now) self.now) row k }
+        ensures { option_map V.means result ≡ row_of (rows_of V.model (meanings V.means cells.now) self.now) row k }
     {
         match row {
             Row::Pause => cells[128 * self.shelf + k],
@@ -25,7 +25,7 @@ impl Piece {
     // The join of a row's coefficients over a set of phases.
     pub fn over<V: Algebra>(&self, row: Row, cells: &[Option<V>], set: u64) -> Option<V>
         requires { 2048 ≤ length cells.now }
-        ensures { option_map means result ≡ joins model (has_member set) (row_of (rows_of model (meanings means cells.now) self.now) row) (size (rows_of model (meanings means cells.now) self.now)) }
+        ensures { option_map V.means result ≡ joins V.model (has_member set) (row_of (rows_of V.model (meanings V.means cells.now) self.now) row) (size (rows_of V.model (meanings V.means cells.now) self.now)) }
     {
         let mut all = None;
         for k in 0..self.shape.size() {
@@ -39,7 +39,7 @@ impl Piece {
     // The phase after each member of a set at which pause is present.
     pub fn moved<V: Algebra>(&self, cells: &[Option<V>], set: u64) -> u64
         requires { 2048 ≤ length cells.now }
-        ensures { result ≡ phases_after (rows_of model (meanings means cells.now) self.now) set }
+        ensures { result ≡ phases_after (rows_of V.model (meanings V.means cells.now) self.now) set }
     {
         let mut after = 0;
         for k in 0..self.shape.size() {

@@ -20,7 +20,7 @@ impl Repeat {
     // The weight with which A starts at this tick: the unit at tick 0, later what its runs leave with.
     fn again<V: Algebra>(&self, cells: &[Option<V>], s: Situation) -> Option<V>
         requires { 2048 ≤ length cells.now }
-        ensures { option_map means result ≡ starts model (rows_of model (meanings means cells.now) self.now.a) s.wa s.set }
+        ensures { option_map V.means result ≡ starts V.model (rows_of V.model (meanings V.means cells.now) self.now.a) s.wa s.set }
     {
         if s.wa {
             Some(V::unit())

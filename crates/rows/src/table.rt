@@ -28,7 +28,7 @@ fn current(set: u64, stay: bool, arc: Arc) -> bool
 
 // The join of the weights of the set's arcs that stay, or that lead out.
 fn joined<V: Algebra>(arcs: &[Arc], set: u64, stay: bool) -> Option<V>
-    ensures { option_map means result ≡ weights model set stay arcs.now }
+    ensures { option_map V.means result ≡ weights V.model set stay arcs.now }
 {
     let mut all = None;
     for arc in arcs {

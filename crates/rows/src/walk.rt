@@ -19,7 +19,7 @@ pub struct Turn {
 
 // A situation that equals an earlier one makes both rows repeat from there, with the distance as a period.
 pub fn repeating_stands<V: Algebra>()
-    ensures { (rule : Rule model) (i n : ℕ) → i < n → at rule i ≡ at rule n → Repeats (rows rule) i (n - i) }
+    ensures { (rule : Rule V.model) (i n : ℕ) → i < n → at rule i ≡ at rule n → Repeats (rows rule) i (n - i) }
 {}
 
 // The first of the first n situations that equals s.

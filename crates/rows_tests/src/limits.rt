@@ -5,6 +5,7 @@ use rows::fork::Fork;
 use rows::outcome::Unkept;
 use rows::unroll::unroll;
 use std::process::Abort;
+use std::test::Fail;
 
 // What is said of two rings beside each other.
 fn said(rt: &impl Abort, one: usize, two: usize) -> Result<&'static str, Fail> {

@@ -11,6 +11,7 @@ use rows::fork::Fork;
 use rows::piece::{Piece, Row};
 use rows::table::Table;
 use std::process::Abort;
+use std::test::Fail;
 
 fn arc(from: u8, to: u8, cycles: u32, ports: u32) -> Arc {
     Arc {

@@ -10,6 +10,7 @@ use rows::piece::{Piece, Row};
 use rows::repeat::Repeat;
 use rows::sequence::Sequence;
 use rows::table::Table;
+use std::test::Fail;
 
 // Two pauses in sequence, on a shelf and the two after it.
 fn twice(

@@ -1,5 +1,6 @@
 -- The state of a rack, from what it holds.
 use Rattle.std.specs.Prelude.{take}
+use Rattle.algebra.specs.declared.algebra.Algebra.{Ghosts}
 use Rattle.algebra.specs.Model.{Model}
 use Rattle.rows.specs.Pieces.{meanings}
 use Rattle.shelves.specs.declared.call.Call.{Call as Made}
@@ -9,7 +10,7 @@ use Rattle.shelves.specs.Calls.{Call, node, pause, table, pair, loop, clear, rep
 use Rattle.shelves.specs.State.{State}
 use Rattle.shelves.specs.Tables.{shelves_of, steps_of, arcs_of}
 
-abbrev pub state_of : (m : Model) {V : Type 0} → (V → m.Carrier) → Core V → State m
+abbrev pub state_of : (m : Model) {V : Type 0} {algebra : Ghosts V} → (V → m.Carrier) → Core V algebra → State m
 state_of m means core = record {
   cells = meanings means (take 2048 core.cells.now);
   shelves = shelves_of core.shelves;

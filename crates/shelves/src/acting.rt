@@ -18,24 +18,24 @@ use algebra::arc::Arc;
 use algebra::label::Label;
 
 pub fn act_node<V: Algebra>(core: &mut Core<V>, shelf: u8, label: Label) -> Reply<V>
-    requires { AllYes (Yes model (state_of model means core.old) (Node-call shelf label)) early }
-    ensures { Does model (Node-call shelf label) (reply_of model means result) (state_of model means core.old) (state_of model means core.new) }
+    requires { AllYes (Yes V.model (state_of V.model V.means core.old) (Node-call shelf label)) early }
+    ensures { Does V.model (Node-call shelf label) (reply_of V.model V.means result) (state_of V.model V.means core.old) (state_of V.model V.means core.new) }
 {
     put_node(core, shelf as usize, label);
     Reply::Accepted(0)
 }
 
 pub fn act_pause<V: Algebra>(core: &mut Core<V>, shelf: u8, label: Label) -> Reply<V>
-    requires { AllYes (Yes model (state_of model means core.old) (pause_call shelf label)) early }
-    ensures { Does model (pause_call shelf label) (reply_of model means result) (state_of model means core.old) (state_of model means core.new) }
+    requires { AllYes (Yes V.model (state_of V.model V.means core.old) (pause_call shelf label)) early }
+    ensures { Does V.model (pause_call shelf label) (reply_of V.model V.means result) (state_of V.model V.means core.old) (state_of V.model V.means core.new) }
 {
     put_pause(core, shelf as usize, label);
     Reply::Accepted(0)
 }
 
 pub fn act_table<V: Algebra>(core: &mut Core<V>, shelf: u8, arcs: &[Arc]) -> Reply<V>
-    requires { AllYes (Yes model (state_of model means core.old) (table_call shelf arcs.now)) early }
-    ensures { Does model (table_call shelf arcs.now) (reply_of model means result) (state_of model means core.old) (state_of model means core.new) }
+    requires { AllYes (Yes V.model (state_of V.model V.means core.old) (table_call shelf arcs.now)) early }
+    ensures { Does V.model (table_call shelf arcs.now) (reply_of V.model V.means result) (state_of V.model V.means core.old) (state_of V.model V.means core.new) }
 {
     match put_table(core, shelf as usize, arcs) {
         Ok(number) => Reply::Accepted(number),
@@ -44,8 +44,8 @@ pub fn act_table<V: Algebra>(core: &mut Core<V>, shelf: u8, arcs: &[Arc]) -> Rep
 }
 
 pub fn act_loop<V: Algebra>(core: &mut Core<V>, shelf: u8) -> Reply<V>
-    requires { AllYes (Yes model (state_of model means core.old) (loop_call shelf)) early }
-    ensures { Does model (loop_call shelf) (reply_of model means result) (state_of model means core.old) (state_of model means core.new) }
+    requires { AllYes (Yes V.model (state_of V.model V.means core.old) (loop_call shelf)) early }
+    ensures { Does V.model (loop_call shelf) (reply_of V.model V.means result) (state_of V.model V.means core.old) (state_of V.model V.means core.new) }
 {
     let k = shelf as usize;
     let i = core.shelves.at(k).step.unwrap_or(0);
@@ -56,8 +56,8 @@ pub fn act_loop<V: Algebra>(core: &mut Core<V>, shelf: u8) -> Reply<V>
 }
 
 pub fn act_clear<V: Algebra>(core: &mut Core<V>, shelf: u8) -> Reply<V>
-    requires { AllYes (Yes model (state_of model means core.old) (clear_call shelf)) early }
-    ensures { Does model (clear_call shelf) (reply_of model means result) (state_of model means core.old) (state_of model means core.new) }
+    requires { AllYes (Yes V.model (state_of V.model V.means core.old) (clear_call shelf)) early }
+    ensures { Does V.model (clear_call shelf) (reply_of V.model V.means result) (state_of V.model V.means core.old) (state_of V.model V.means core.new) }
 {
     empty(core, shelf as usize);
     Reply::Accepted(0)
@@ -65,23 +65,23 @@ pub fn act_clear<V: Algebra>(core: &mut Core<V>, shelf: u8) -> Reply<V>
 
 // The report of a shelf, which only looks.
 pub fn shelf_report<V: Algebra>(core: &Core<V>, shelf: u8) -> Report<V>
-    requires { AllYes (Yes model (state_of model means core.now) (report_call shelf)) early }
-    ensures { Does model (report_call shelf) (reported (report_of model means result)) (state_of model means core.now) (state_of model means core.now) }
+    requires { AllYes (Yes V.model (state_of V.model V.means core.now) (report_call shelf)) early }
+    ensures { Does V.model (report_call shelf) (reported (report_of V.model V.means result)) (state_of V.model V.means core.now) (state_of V.model V.means core.now) }
 {
     let shown = piece(&core.shelves, shelf as usize);
     report(&*core.cells, shown)
 }
 
 pub fn act_report<V: Algebra>(core: &Core<V>, shelf: u8) -> Reply<V>
-    requires { AllYes (Yes model (state_of model means core.now) (report_call shelf)) early }
-    ensures { Does model (report_call shelf) (reply_of model means result) (state_of model means core.now) (state_of model means core.now) }
+    requires { AllYes (Yes V.model (state_of V.model V.means core.now) (report_call shelf)) early }
+    ensures { Does V.model (report_call shelf) (reply_of V.model V.means result) (state_of V.model V.means core.now) (state_of V.model V.means core.now) }
 {
     Reply::Reported(shelf_report(core, shelf))
 }
 
 pub fn act_pair<V: Algebra>(core: &mut Core<V>, kind: Pairing, first: u8, second: u8) -> Reply<V>
-    requires { AllYes (Yes model (state_of model means core.old) (pair_call kind first second)) early }
-    ensures { Does model (pair_call kind first second) (reply_of model means result) (state_of model means core.old) (state_of model means core.new) }
+    requires { AllYes (Yes V.model (state_of V.model V.means core.old) (pair_call kind first second)) early }
+    ensures { Does V.model (pair_call kind first second) (reply_of V.model V.means result) (state_of V.model V.means core.old) (state_of V.model V.means core.new) }
 {
     let a = first as usize;
     let b = second as usize;

@@ -21,8 +21,8 @@ use algebra::algebra::Algebra;
 
 // What a call does whose questions before unrolling all said yes.
 fn act<V: Algebra>(core: &mut Core<V>, call: Call) -> Reply<V>
-    requires { AllYes (Yes model (state_of model means core.old) (call_of call)) early }
-    ensures { Does model (call_of call.entry) (reply_of model means result) (state_of model means core.old) (state_of model means core.new) }
+    requires { AllYes (Yes V.model (state_of V.model V.means core.old) (call_of call)) early }
+    ensures { Does V.model (call_of call.entry) (reply_of V.model V.means result) (state_of V.model V.means core.old) (state_of V.model V.means core.new) }
 {
     match call {
         Call::Node { shelf, label } => act_node(core, shelf, label),
@@ -41,8 +41,8 @@ fn act<V: Algebra>(core: &mut Core<V>, call: Call) -> Reply<V>
 
 // The answer to a call, and after any history the promise with this call added.
 pub fn answer<V: Algebra>(core: &mut Core<V>, call: Call) -> Reply<V>
-    ensures does { Does model (call_of call.entry) (reply_of model means result) (state_of model means core.old) (state_of model means core.new) }
-    ensures promise { (h : List (Event model)) → Made model h (state_of model means core.old) → Made model (record { call = call_of call.entry; reply = reply_of model means result } ∷ h) (state_of model means core.new) × Kept model (record { call = call_of call.entry; reply = reply_of model means result } ∷ h) (state_of model means core.new) }
+    ensures does { Does V.model (call_of call.entry) (reply_of V.model V.means result) (state_of V.model V.means core.old) (state_of V.model V.means core.new) }
+    ensures promise { (h : List (Event V.model)) → Made V.model h (state_of V.model V.means core.old) → Made V.model (record { call = call_of call.entry; reply = reply_of V.model V.means result } ∷ h) (state_of V.model V.means core.new) × Kept V.model (record { call = call_of call.entry; reply = reply_of V.model V.means result } ∷ h) (state_of V.model V.means core.new) }
 {
     match first_no(core, call) {
         Some(found) => Reply::Refused(found),
@@ -52,7 +52,7 @@ pub fn answer<V: Algebra>(core: &mut Core<V>, call: Call) -> Reply<V>
 
 // The answer to a report, which only looks.
 pub fn look<V: Algebra>(core: &Core<V>, shelf: u8) -> Result<Report<V>, Refusal>
-    ensures { Answers model (report_call shelf) (shown model means result) (state_of model means core.now) (state_of model means core.now) }
+    ensures { Answers V.model (report_call shelf) (shown V.model V.means result) (state_of V.model V.means core.now) (state_of V.model V.means core.now) }
 {
     match first_no(core, Call::report(shelf)) {
         Some(found) => Err(found),

@@ -18,7 +18,7 @@ use algebra::algebra::Algebra;
 // Is the exit of shelf k absent at tick 0?
 fn stays<V: Algebra>(cells: &[Option<V>], k: u8) -> bool
     requires { 4096 ≤ length cells.now }
-    ensures { is_some (slice_index_or (meanings means (take 2048 cells.now)) (128 * k + 64 + 0) absent) ≡ not result }
+    ensures { is_some (slice_index_or (meanings V.means (take 2048 cells.now)) (128 * k + 64 + 0) absent) ≡ not result }
 {
     if k > 15 {
         return true;
@@ -29,7 +29,7 @@ fn stays<V: Algebra>(cells: &[Option<V>], k: u8) -> bool
 // Is a loop's exit absent at tick 0?
 fn staying<V: Algebra>(cells: &[Option<V>], call: Call) -> bool
     requires { 4096 ≤ length cells.now }
-    ensures { Decides result (All (λ k. is_some (slice_index_or (meanings means (take 2048 cells.now)) (128 * k + 64 + 0) absent) ≡ false) (about (call_of call.entry)).looped) }
+    ensures { Decides result (All (λ k. is_some (slice_index_or (meanings V.means (take 2048 cells.now)) (128 * k + 64 + 0) absent) ≡ false) (about (call_of call.entry)).looped) }
 {
     match call {
         Call::Loop { shelf } => stays(cells, shelf),
@@ -44,7 +44,7 @@ fn staying<V: Algebra>(cells: &[Option<V>], call: Call) -> bool
 
 // The first no among the questions that come before unrolling.
 pub fn first_no<V: Algebra>(core: &Core<V>, call: Call) -> Option<Refusal>
-    ensures { MatchOption result (AllYes (Yes model (state_of model means core.now) (call_of call.entry)) early) (λ no. FirstNo (Yes model (state_of model means core.now) (call_of call.entry)) early no) }
+    ensures { MatchOption result (AllYes (Yes V.model (state_of V.model V.means core.now) (call_of call.entry)) early) (λ no. FirstNo (Yes V.model (state_of V.model V.means core.now) (call_of call.entry)) early no) }
 {
     if !numbered(call) {
         return Some(Refusal::NoShelf);

@@ -41,7 +41,7 @@ fn settle<V: Algebra>(core: &mut Core<V>, k: usize, shape: Shape, step: Step)
 // Puts a node's rows on shelf k and records its step.
 pub fn put_node<V: Algebra>(core: &mut Core<V>, k: usize, label: Label)
     requires { (k ≤ 15) × (core.old.steps.count < 512) }
-    ensures { Puts model (node_row model label) k (node_step label) [] (state_of model means core.old) (state_of model means core.new) }
+    ensures { Puts V.model (node_row V.model label) k (node_step label) [] (state_of V.model V.means core.old) (state_of V.model V.means core.new) }
 {
     let cells = std::mem::replace(&mut core.cells, &mut []);
     write_node(cells, k, label);
@@ -60,7 +60,7 @@ pub fn put_node<V: Algebra>(core: &mut Core<V>, k: usize, label: Label)
 // Puts a pause's rows on shelf k and records its step.
 pub fn put_pause<V: Algebra>(core: &mut Core<V>, k: usize, label: Label)
     requires { (k ≤ 15) × (core.old.steps.count < 512) }
-    ensures { Puts model (pause_row model label) k (pause_step label) [] (state_of model means core.old) (state_of model means core.new) }
+    ensures { Puts V.model (pause_row V.model label) k (pause_step label) [] (state_of V.model V.means core.old) (state_of V.model V.means core.new) }
 {
     let cells = std::mem::replace(&mut core.cells, &mut []);
     write_pause(cells, k, label);
@@ -79,7 +79,7 @@ pub fn put_pause<V: Algebra>(core: &mut Core<V>, k: usize, label: Label)
 // Empties shelf k.
 pub fn empty<V: Algebra>(core: &mut Core<V>, k: usize)
     requires { k ≤ 15 }
-    ensures { Empties model k (state_of model means core.old) (state_of model means core.new) }
+    ensures { Empties V.model k (state_of V.model V.means core.old) (state_of V.model V.means core.new) }
 {
     let cells = std::mem::replace(&mut core.cells, &mut []);
     blank(cells, k);

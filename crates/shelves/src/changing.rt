@@ -15,8 +15,8 @@ use algebra::algebra::Algebra;
 
 pub fn change<V: Algebra>(core: &mut Core<V>, call: Call) -> Result<usize, Refusal>
     requires { Changing (call_of call) }
-    ensures answers { Answers model (call_of call.entry) (answered model result) (state_of model means core.old) (state_of model means core.new) }
-    ensures fills { OnOk result (All (IsFilled (state_of model means core.new)) (filled_by (call_of call.entry))) }
+    ensures answers { Answers V.model (call_of call.entry) (answered V.model result) (state_of V.model V.means core.old) (state_of V.model V.means core.new) }
+    ensures fills { OnOk result (All (IsFilled (state_of V.model V.means core.new)) (filled_by (call_of call.entry))) }
 {
     match answer(core, call) {
         Reply::Accepted(number) => Ok(number),

@@ -43,7 +43,7 @@ pub fn piece(shelves: &Shelves, k: usize) -> Piece
 // A loop of the piece on shelf k, whose step is i.
 pub fn put_loop<V: Algebra>(core: &mut Core<V>, k: usize, i: usize) -> Result<usize, Refusal>
     requires { (k ≤ 15) × (core.old.steps.count < 512) }
-    ensures { Built model (loop_rule model (shelf_rows (state_of model means core.old) k)) k (loop_step i) [] (state_of model means core.old) (state_of model means core.new) result }
+    ensures { Built V.model (loop_rule V.model (shelf_rows (state_of V.model V.means core.old) k)) k (loop_step i) [] (state_of V.model V.means core.old) (state_of V.model V.means core.new) result }
 {
     let a = piece(&core.shelves, k);
     build(core, &Repeat { a }, k, Step::Repeat { of: i })
@@ -59,7 +59,7 @@ pub fn put_pair<V: Algebra>(
     j: usize,
 ) -> Result<usize, Refusal>
     requires { (first ≤ 15) × ((second ≤ 15) × (core.old.steps.count < 512)) }
-    ensures { Built model (pair_rule model kind (shelf_rows (state_of model means core.old) first) (shelf_rows (state_of model means core.old) second)) first (pair_step kind i j) [] (state_of model means core.old) (state_of model means core.new) result }
+    ensures { Built V.model (pair_rule V.model kind (shelf_rows (state_of V.model V.means core.old) first) (shelf_rows (state_of V.model V.means core.old) second)) first (pair_step kind i j) [] (state_of V.model V.means core.old) (state_of V.model V.means core.new) result }
 {
     let a = piece(&core.shelves, first);
     let b = piece(&core.shelves, second);
@@ -106,7 +106,7 @@ pub fn put_pair<V: Algebra>(
 // A table of arcs on shelf k, which are recorded with it.
 pub fn put_table<V: Algebra>(core: &mut Core<V>, k: usize, arcs: &[Arc]) -> Result<usize, Refusal>
     requires { (k ≤ 15) × ((core.old.steps.count < 512) × (core.old.arcs.count + length arcs.now ≤ 512)) }
-    ensures { Built model (table_rule model arcs.now) k (table_step (length (state_of model means core.old).arcs) (length arcs.now)) arcs.now (state_of model means core.old) (state_of model means core.new) result }
+    ensures { Built V.model (table_rule V.model arcs.now) k (table_step (length (state_of V.model V.means core.old).arcs) (length arcs.now)) arcs.now (state_of V.model V.means core.old) (state_of V.model V.means core.new) result }
 {
     let step = Step::Table {
         first: core.arcs.count,

@@ -12,7 +12,7 @@ use rows::walk::note;
 // A node: its weight on exit at tick 0.
 pub fn write_node<V: Algebra>(cells: &mut [Option<V>], k: usize, label: Label)
     requires { (4096 ≤ length cells.old) × (k ≤ 15) }
-    ensures keeps { Keeps model (node_row model label) k 1 1 (meanings means (take 2048 cells.new)) }
+    ensures keeps { Keeps V.model (node_row V.model label) k 1 1 (meanings V.means (take 2048 cells.new)) }
     ensures others { (j : ℕ) → j < 2048 → (OfShelf k j → ⊥) → slice_index_or cells.new j absent ≡ slice_index_or cells.old j absent }
     ensures past { drop 4096 cells.new ≡ drop 4096 cells.old }
 {
@@ -24,7 +24,7 @@ pub fn write_node<V: Algebra>(cells: &mut [Option<V>], k: usize, label: Label)
 // A pause: its weight on pause at tick 0, and the unit on exit at tick 1.
 pub fn write_pause<V: Algebra>(cells: &mut [Option<V>], k: usize, label: Label)
     requires { (4096 ≤ length cells.old) × (k ≤ 15) }
-    ensures keeps { Keeps model (pause_row model label) k 2 1 (meanings means (take 2048 cells.new)) }
+    ensures keeps { Keeps V.model (pause_row V.model label) k 2 1 (meanings V.means (take 2048 cells.new)) }
     ensures others { (j : ℕ) → j < 2048 → (OfShelf k j → ⊥) → slice_index_or cells.new j absent ≡ slice_index_or cells.old j absent }
     ensures past { drop 4096 cells.new ≡ drop 4096 cells.old }
 {
@@ -37,7 +37,7 @@ pub fn write_pause<V: Algebra>(cells: &mut [Option<V>], k: usize, label: Label)
 // No rows: every cell of the shelf is absent.
 pub fn blank<V: Algebra>(cells: &mut [Option<V>], k: usize)
     requires { (4096 ≤ length cells.old) × (k ≤ 15) }
-    ensures blank { Blank model k (meanings means (take 2048 cells.new)) }
+    ensures blank { Blank V.model k (meanings V.means (take 2048 cells.new)) }
     ensures others { (j : ℕ) → j < 2048 → (OfShelf k j → ⊥) → slice_index_or cells.new j absent ≡ slice_index_or cells.old j absent }
     ensures past { drop 4096 cells.new ≡ drop 4096 cells.old }
 {

@@ -23,8 +23,8 @@ fn write_reply<V: Algebra>(replies: &mut [Reply<V>], i: usize, reply: Reply<V>)
 pub fn answer_all<V: Algebra>(core: &mut Core<V>, calls: &[Call], replies: &mut [Reply<V>]) -> usize
     ensures count { result ≡ min (length calls.now) (length replies.old) }
     ensures rest { drop result replies.new ≡ drop result replies.old }
-    ensures promise { (h : List (Event model)) → Made model h (state_of model means core.old) → Made model (after_calls model (map call_of (take result calls.now)) (map (reply_of model means) (take result replies.new)) h) (state_of model means core.new) × Kept model (after_calls model (map call_of (take result calls.now)) (map (reply_of model means) (take result replies.new)) h) (state_of model means core.new) }
-    ensures answers { AnswersAll model (map call_of (take result calls.now)) (map (reply_of model means) (take result replies.new)) (state_of model means core.old) (state_of model means core.new) }
+    ensures promise { (h : List (Event V.model)) → Made V.model h (state_of V.model V.means core.old) → Made V.model (after_calls V.model (map call_of (take result calls.now)) (map (reply_of V.model V.means) (take result replies.new)) h) (state_of V.model V.means core.new) × Kept V.model (after_calls V.model (map call_of (take result calls.now)) (map (reply_of V.model V.means) (take result replies.new)) h) (state_of V.model V.means core.new) }
+    ensures answers { AnswersAll V.model (map call_of (take result calls.now)) (map (reply_of V.model V.means) (take result replies.new)) (state_of V.model V.means core.old) (state_of V.model V.means core.new) }
 {
     let n = calls.len().min(replies.len());
     for i in 0..n {

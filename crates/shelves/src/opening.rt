@@ -38,8 +38,8 @@ pub fn open<'a, V: Algebra>(cells: &'a mut [Option<V>]) -> Core<'a, V>
     requires { 4096 ≤ length cells.old }
     ensures blank { (j : ℕ) → j < 4096 → slice_index_or result.cells.now j absent ≡ absent }
     ensures past { drop 4096 result.cells.now ≡ drop 4096 cells.old }
-    ensures fresh { Fresh model (state_of model means result) }
-    ensures promise { Made model [] (state_of model means result) × Kept model [] (state_of model means result) }
+    ensures fresh { Fresh V.model (state_of V.model V.means result) }
+    ensures promise { Made V.model [] (state_of V.model V.means result) × Kept V.model [] (state_of V.model V.means result) }
 {
     wipe(cells);
     Core {

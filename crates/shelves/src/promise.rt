@@ -5,6 +5,6 @@ use algebra::algebra::Algebra;
 
 // A rack just opened keeps the promise, and so does each call after any history.
 pub fn promise_stands<V: Algebra>() -> ()
-    ensures opening { Opening model }
-    ensures calls { Promise model }
+    ensures opening { Opening V.model }
+    ensures calls { Promise V.model }
 {}

@@ -16,7 +16,7 @@ use rows::piece::{Piece, Row};
 fn both<V: Algebra>(piece: &Piece, cells: &[Option<V>], k: usize) -> Option<V>
     requires phase { k < piece.now.shape.transient + piece.now.shape.period }
     requires room { 2048 ≤ length cells.now }
-    ensures { let given = rows_of model (meanings means cells.now) piece.now in option_map means result ≡ joined model (pause_at given k) (exit_at given k) }
+    ensures { let given = rows_of V.model (meanings V.means cells.now) piece.now in option_map V.means result ≡ joined V.model (pause_at given k) (exit_at given k) }
 {
     join(
         piece.at(Row::Pause, cells, k),
@@ -27,7 +27,7 @@ fn both<V: Algebra>(piece: &Piece, cells: &[Option<V>], k: usize) -> Option<V>
 // The join of both rows over all phases.
 fn figure<V: Algebra>(piece: &Piece, cells: &[Option<V>]) -> Option<V>
     requires { 2048 ≤ length cells.now }
-    ensures { let given = rows_of model (meanings means cells.now) piece.now in option_map means result ≡ figure_of model (pause_at given) (exit_at given) (size given) }
+    ensures { let given = rows_of V.model (meanings V.means cells.now) piece.now in option_map V.means result ≡ figure_of V.model (pause_at given) (exit_at given) (size given) }
 {
     let mut all = None;
     for k in 0..piece.shape.size() {
@@ -38,10 +38,10 @@ fn figure<V: Algebra>(piece: &Piece, cells: &[Option<V>]) -> Option<V>
 
 // The first tick at which both rows joined are the figure: where the algebra chooses, some phase has it.
 fn first_tick<V: Algebra>(piece: &Piece, cells: &[Option<V>], figure: Option<V>) -> usize
-    requires chooses { model.chooses ≡ true }
+    requires chooses { V.model.chooses ≡ true }
     requires room { 2048 ≤ length cells.now }
-    requires whole { let given = rows_of model (meanings means cells.now) piece.now in option_map means figure ≡ figure_of model (pause_at given) (exit_at given) (size given) }
-    ensures { FirstTick model true (option_map means figure) (rows_of model (meanings means cells.now) piece.now) (present result) }
+    requires whole { let given = rows_of V.model (meanings V.means cells.now) piece.now in option_map V.means figure ≡ figure_of V.model (pause_at given) (exit_at given) (size given) }
+    ensures { FirstTick V.model true (option_map V.means figure) (rows_of V.model (meanings V.means cells.now) piece.now) (present result) }
 {
     for tick in 0..piece.shape.size() {
         if equal(both(piece, cells, tick), figure) {
@@ -54,10 +54,10 @@ fn first_tick<V: Algebra>(piece: &Piece, cells: &[Option<V>], figure: Option<V>)
 // The report of a piece on the shelves, which are the first 2,048 cells.
 pub fn report<V: Algebra>(cells: &[Option<V>], piece: Piece) -> Report<V>
     requires { 2048 ≤ length cells.now }
-    ensures figure { let given = rows_of model (meanings means (take 2048 cells.now)) piece in (report_of model means result).figure ≡ figure_of model (pause_at given) (exit_at given) (size given) }
-    ensures tick { FirstTick model model.chooses (report_of model means result).figure (rows_of model (meanings means (take 2048 cells.now)) piece) (report_of model means result).tick }
-    ensures transient { (report_of model means result).transient ≡ piece.shape.transient }
-    ensures period { (report_of model means result).period ≡ piece.shape.period }
+    ensures figure { let given = rows_of V.model (meanings V.means (take 2048 cells.now)) piece in (report_of V.model V.means result).figure ≡ figure_of V.model (pause_at given) (exit_at given) (size given) }
+    ensures tick { FirstTick V.model V.model.chooses (report_of V.model V.means result).figure (rows_of V.model (meanings V.means (take 2048 cells.now)) piece) (report_of V.model V.means result).tick }
+    ensures transient { (report_of V.model V.means result).transient ≡ piece.shape.transient }
+    ensures period { (report_of V.model V.means result).period ≡ piece.shape.period }
 {
     let shelves = &cells[..2048];
     let figure = figure(&piece, shelves);

@@ -1,4 +1,6 @@
 // Algebras that are printed: their names and the words of their figures.
+#![tactic(auto)]
+
 ghost use Rattle.std.specs.Prelude.{◌≡◌, ℕ, List, IfOk, string_bytes, codes, decimal};
 ghost use Rattle.shown.specs.Figures.{cycles_words};
 

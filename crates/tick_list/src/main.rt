@@ -1,4 +1,6 @@
 // Lists a program file: its records in plain words, and the weight of all its labels.
+#![tactic(auto)]
+
 mod lines;
 
 use algebra::best::Best;

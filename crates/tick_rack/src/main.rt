@@ -1,4 +1,6 @@
 // Analyses a program file and prints a line for each algebra.
+#![tactic(auto)]
+
 use lines::printout::printout;
 use std::io;
 use std::io::Read;

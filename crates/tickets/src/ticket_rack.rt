@@ -32,16 +32,16 @@ impl<'a, V: Algebra> TicketRack<'a, V> {
         requires { 4096 ≤ length cells.old }
         ensures blank { (j : ℕ) → j < 4096 → slice_index_or result.core.cells.now j absent ≡ absent }
         ensures past { drop 4096 result.core.cells.now ≡ drop 4096 cells.old }
-        ensures fresh { Fresh model (state_of model means result.core) }
-        ensures promise { Made model [] (state_of model means result.core) × Kept model [] (state_of model means result.core) }
+        ensures fresh { Fresh V.model (state_of V.model V.means result.core) }
+        ensures promise { Made V.model [] (state_of V.model V.means result.core) × Kept V.model [] (state_of V.model V.means result.core) }
     {
         TicketRack { core: open(cells) }
     }
 
     pub fn node(&mut self, shelf: u8, label: Label) -> Result<Built, Refusal>
-        ensures answers { Answers model (Node-call shelf label) (leaf_reply model result) (state_of model means self.old.core) (state_of model means self.new.core) }
+        ensures answers { Answers V.model (Node-call shelf label) (leaf_reply V.model result) (state_of V.model V.means self.old.core) (state_of V.model V.means self.new.core) }
         ensures ticket { IfOk result (λ built. built.ticket.shelf ≡ shelf) }
-        ensures names { IfOk result (λ built. Names (state_of model means self.new.core) built.ticket) }
+        ensures names { IfOk result (λ built. Names (state_of V.model V.means self.new.core) built.ticket) }
     {
         match change(&mut self.core, Call::node(shelf, label)) {
             Ok(number) => Ok(Built {
@@ -53,9 +53,9 @@ impl<'a, V: Algebra> TicketRack<'a, V> {
     }
 
     pub fn pause(&mut self, shelf: u8, label: Label) -> Result<Built, Refusal>
-        ensures answers { Answers model (pause_call shelf label) (leaf_reply model result) (state_of model means self.old.core) (state_of model means self.new.core) }
+        ensures answers { Answers V.model (pause_call shelf label) (leaf_reply V.model result) (state_of V.model V.means self.old.core) (state_of V.model V.means self.new.core) }
         ensures ticket { IfOk result (λ built. built.ticket.shelf ≡ shelf) }
-        ensures names { IfOk result (λ built. Names (state_of model means self.new.core) built.ticket) }
+        ensures names { IfOk result (λ built. Names (state_of V.model V.means self.new.core) built.ticket) }
     {
         match change(&mut self.core, Call::pause(shelf, label)) {
             Ok(number) => Ok(Built {
@@ -67,9 +67,9 @@ impl<'a, V: Algebra> TicketRack<'a, V> {
     }
 
     pub fn table(&mut self, shelf: u8, arcs: &[Arc]) -> Result<Built, Refusal>
-        ensures answers { Answers model (table_call shelf arcs.now) (leaf_reply model result) (state_of model means self.old.core) (state_of model means self.new.core) }
+        ensures answers { Answers V.model (table_call shelf arcs.now) (leaf_reply V.model result) (state_of V.model V.means self.old.core) (state_of V.model V.means self.new.core) }
         ensures ticket { IfOk result (λ built. built.ticket.shelf ≡ shelf) }
-        ensures names { IfOk result (λ built. Names (state_of model means self.new.core) built.ticket) }
+        ensures names { IfOk result (λ built. Names (state_of V.model V.means self.new.core) built.ticket) }
     {
         match change(&mut self.core, Call::table(shelf, arcs)) {
             Ok(number) => Ok(Built {
@@ -82,9 +82,9 @@ impl<'a, V: Algebra> TicketRack<'a, V> {
 
     // Spends the second ticket; the first is then the result's. Refused, it hands both back.
     fn pair(&mut self, kind: Pairing, first: Ticket, second: Ticket) -> Result<Built, BothBack>
-        ensures answers { Answers model (pair_call kind first.shelf second.shelf) (pair_reply model result) (state_of model means self.old.core) (state_of model means self.new.core) }
+        ensures answers { Answers V.model (pair_call kind first.shelf second.shelf) (pair_reply V.model result) (state_of V.model V.means self.old.core) (state_of V.model V.means self.new.core) }
         ensures ticket { MatchResult result (λ built. built.ticket ≡ first) (λ back. (back.first ≡ first) × (back.second ≡ second)) }
-        ensures names { IfOk result (λ built. Names (state_of model means self.new.core) built.ticket) }
+        ensures names { IfOk result (λ built. Names (state_of V.model V.means self.new.core) built.ticket) }
     {
         let call = Call::pair(kind, first.shelf, second.shelf);
         match change(&mut self.core, call) {
@@ -100,42 +100,42 @@ impl<'a, V: Algebra> TicketRack<'a, V> {
     }
 
     pub fn choice(&mut self, first: Ticket, second: Ticket) -> Result<Built, BothBack>
-        ensures answers { Answers model (pair_call kind.Choice first.shelf second.shelf) (pair_reply model result) (state_of model means self.old.core) (state_of model means self.new.core) }
+        ensures answers { Answers V.model (pair_call kind.Choice first.shelf second.shelf) (pair_reply V.model result) (state_of V.model V.means self.old.core) (state_of V.model V.means self.new.core) }
         ensures ticket { MatchResult result (λ built. built.ticket ≡ first) (λ back. (back.first ≡ first) × (back.second ≡ second)) }
-        ensures names { IfOk result (λ built. Names (state_of model means self.new.core) built.ticket) }
+        ensures names { IfOk result (λ built. Names (state_of V.model V.means self.new.core) built.ticket) }
     {
         self.pair(Pairing::Choice, first, second)
     }
 
     pub fn sequence(&mut self, first: Ticket, second: Ticket) -> Result<Built, BothBack>
-        ensures answers { Answers model (pair_call kind.Sequence first.shelf second.shelf) (pair_reply model result) (state_of model means self.old.core) (state_of model means self.new.core) }
+        ensures answers { Answers V.model (pair_call kind.Sequence first.shelf second.shelf) (pair_reply V.model result) (state_of V.model V.means self.old.core) (state_of V.model V.means self.new.core) }
         ensures ticket { MatchResult result (λ built. built.ticket ≡ first) (λ back. (back.first ≡ first) × (back.second ≡ second)) }
-        ensures names { IfOk result (λ built. Names (state_of model means self.new.core) built.ticket) }
+        ensures names { IfOk result (λ built. Names (state_of V.model V.means self.new.core) built.ticket) }
     {
         self.pair(Pairing::Sequence, first, second)
     }
 
     pub fn fork(&mut self, first: Ticket, second: Ticket) -> Result<Built, BothBack>
-        ensures answers { Answers model (pair_call kind.Fork first.shelf second.shelf) (pair_reply model result) (state_of model means self.old.core) (state_of model means self.new.core) }
+        ensures answers { Answers V.model (pair_call kind.Fork first.shelf second.shelf) (pair_reply V.model result) (state_of V.model V.means self.old.core) (state_of V.model V.means self.new.core) }
         ensures ticket { MatchResult result (λ built. built.ticket ≡ first) (λ back. (back.first ≡ first) × (back.second ≡ second)) }
-        ensures names { IfOk result (λ built. Names (state_of model means self.new.core) built.ticket) }
+        ensures names { IfOk result (λ built. Names (state_of V.model V.means self.new.core) built.ticket) }
     {
         self.pair(Pairing::Fork, first, second)
     }
 
     pub fn abort(&mut self, first: Ticket, second: Ticket) -> Result<Built, BothBack>
-        ensures answers { Answers model (pair_call kind.Abort first.shelf second.shelf) (pair_reply model result) (state_of model means self.old.core) (state_of model means self.new.core) }
+        ensures answers { Answers V.model (pair_call kind.Abort first.shelf second.shelf) (pair_reply V.model result) (state_of V.model V.means self.old.core) (state_of V.model V.means self.new.core) }
         ensures ticket { MatchResult result (λ built. built.ticket ≡ first) (λ back. (back.first ≡ first) × (back.second ≡ second)) }
-        ensures names { IfOk result (λ built. Names (state_of model means self.new.core) built.ticket) }
+        ensures names { IfOk result (λ built. Names (state_of V.model V.means self.new.core) built.ticket) }
     {
         self.pair(Pairing::Abort, first, second)
     }
 
     // The call loop, whose name is a word of the language.
     pub fn repeat(&mut self, ticket: Ticket) -> Result<Built, Back>
-        ensures answers { Answers model (loop_call ticket.shelf) (loop_reply model result) (state_of model means self.old.core) (state_of model means self.new.core) }
+        ensures answers { Answers V.model (loop_call ticket.shelf) (loop_reply V.model result) (state_of V.model V.means self.old.core) (state_of V.model V.means self.new.core) }
         ensures ticket { MatchResult result (λ built. built.ticket ≡ ticket) (λ back. back.ticket ≡ ticket) }
-        ensures names { IfOk result (λ built. Names (state_of model means self.new.core) built.ticket) }
+        ensures names { IfOk result (λ built. Names (state_of V.model V.means self.new.core) built.ticket) }
     {
         match change(&mut self.core, Call::repeat(ticket.shelf)) {
             Ok(number) => Ok(Built { ticket, number }),
@@ -145,9 +145,9 @@ impl<'a, V: Algebra> TicketRack<'a, V> {
 
     // Spends the ticket.
     pub fn clear(&mut self, ticket: Ticket) -> Result<usize, Back>
-        ensures answers { Answers model (clear_call ticket.shelf) (clear_reply model result) (state_of model means self.old.core) (state_of model means self.new.core) }
+        ensures answers { Answers V.model (clear_call ticket.shelf) (clear_reply V.model result) (state_of V.model V.means self.old.core) (state_of V.model V.means self.new.core) }
         ensures ticket { IfErr result (λ back. back.ticket ≡ ticket) }
-        ensures cleared { Names (state_of model means self.old.core) ticket → OnErr result (⊥) }
+        ensures cleared { Names (state_of V.model V.means self.old.core) ticket → OnErr result (⊥) }
     {
         match change(&mut self.core, Call::clear(ticket.shelf)) {
             Ok(number) => {
@@ -160,7 +160,7 @@ impl<'a, V: Algebra> TicketRack<'a, V> {
 
     // Report only looks, at the rack and at the ticket.
     pub fn report(&self, ticket: &Ticket) -> Result<Report<V>, Refusal>
-        ensures { Answers model (report_call ticket.now.shelf) (shown model means result) (state_of model means self.now.core) (state_of model means self.now.core) }
+        ensures { Answers V.model (report_call ticket.now.shelf) (shown V.model V.means result) (state_of V.model V.means self.now.core) (state_of V.model V.means self.now.core) }
     {
         look(&self.core, ticket.shelf)
     }
@@ -169,7 +169,7 @@ impl<'a, V: Algebra> TicketRack<'a, V> {
     pub fn run(&mut self, calls: &[Call], replies: &mut [Reply<V>]) -> usize
         ensures count { result ≡ min (length calls.now) (length replies.old) }
         ensures rest { drop result replies.new ≡ drop result replies.old }
-        ensures answers { AnswersAll model (map call_of (take result calls.now)) (map (reply_of model means) (take result replies.new)) (state_of model means self.old.core) (state_of model means self.new.core) }
+        ensures answers { AnswersAll V.model (map call_of (take result calls.now)) (map (reply_of V.model V.means) (take result replies.new)) (state_of V.model V.means self.old.core) (state_of V.model V.means self.new.core) }
     {
         answer_all(&mut self.core, calls, replies)
     }

@@ -8,6 +8,6 @@ pub returns : goal.returns
 returns g c =
     let m = g.V.Algebra.model in
     let f = g.V.Algebra.means in
-    let built = c.in-ok-ticket in
+    let built = c.in_ok-ticket in
     let holds = built.ensures.plan [] c.open-rack.ensures.promise.0 in
     told m f (state_of m f c.build.new.rack.core) built.ticket.shelf (side_by_side c.args.sweep.now c.args.radar.now) holds c.report-report.result c.report-report.ensures

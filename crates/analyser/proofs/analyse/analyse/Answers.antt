@@ -9,14 +9,14 @@ pub returns : goal.returns
 returns g c =
     let m = g.V.Algebra.model in
     let f = g.V.Algebra.means in
-    let listing = c.in-ok-listing.listing in
+    let listing = c.in_ok-listing.listing in
     let first = state_of m f c.open-rack.result.core in
     let last = state_of m f c.work.new.rack.core in
     let fresh = c.open-rack.ensures.fresh in (
       λ lent. record {
         entries = map entry (vec_items listing.records);
         ending = listing.refusal;
-        holds = c.in-ok-listing.ensures;
+        holds = c.in_ok-listing.ensures;
         new = first;
         last = last;
         fresh = fresh;

@@ -6,7 +6,7 @@ pub returns-in-Ok : goal.returns-in-Ok
 returns-in-Ok g c =
     let m = g.V.Algebra.model in
     let f = g.V.Algebra.means in
-    let one = c.in-ok-built in
+    let one = c.in_ok-built in
     let two = c.in-Ok in
     record {
       names = c.fork.ensures.names;

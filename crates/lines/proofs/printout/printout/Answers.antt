@@ -8,11 +8,11 @@ made_then (Err y) P Q f p = tt
 
 pub returns : goal.returns
 returns c = made_then c.three.result _ _ (λ s says. record {
-  worst_line = string_bytes c.in-ok-worst.worst;
-  best_line = string_bytes c.in-ok-best.best;
-  ports_line = string_bytes c.in-ok-ports.ports;
-  of_worst = c.in-ok-worst.ensures;
-  of_best = c.in-ok-best.ensures;
-  of_ports = c.in-ok-ports.ensures;
-  says = says ∙ (λ i. c.as-str.ensures.value i ++ (10 ∷ (c.as-str-2.ensures.value i ++ (10 ∷ (c.as-str-3.ensures.value i ++ (10 ∷ []))))));
+  worst_line = string_bytes c.in_ok-worst.worst;
+  best_line = string_bytes c.in_ok-best.best;
+  ports_line = string_bytes c.in_ok-ports.ports;
+  of_worst = c.in_ok-worst.ensures;
+  of_best = c.in_ok-best.ensures;
+  of_ports = c.in_ok-ports.ensures;
+  says = says ∙ (λ i. c.as_str.ensures.value i ++ (10 ∷ (c.as_str-2.ensures.value i ++ (10 ∷ (c.as_str-3.ensures.value i ++ (10 ∷ []))))));
 }) c.three.ensures

@@ -16,6 +16,6 @@ one_more bs xs left a rest (fit, is) (fits, first) = (
 
 pub loop-arc-preserved : goal.loop-arc-preserved
 loop-arc-preserved c =
-    let pushed = chosen _ _ _ _ c.push.ensures.items (ap is_ok c.in-ok-push.was) in
+    let pushed = chosen _ _ _ _ c.push.ensures.items (ap is_ok c.in_ok-push.was) in
     subst (λ (l : List Arc). AllByRecursion FitsArc l × (c.args.bytes.now ≡ flat_map arc_bytes l ++ c.in-Some.rest.now)) (sym pushed)
     (one_more _ _ _ _ _ c.loop-arc.invariant c.in-Some.ensures)

@@ -7,7 +7,7 @@ use Rattle.program.proofs.bodies.step.Goals as goal
 pub returns : goal.returns
 returns c =
     let bs : List ℕ = c.args.body.now in
-    let label = c.in-ok-label.ensures in
-    let none = nil_from_length c.in-ok-label.rest.now (true-eqb _ 0 c.if-not-is-empty.ensures) in
-    let rest = sym (take_rest bs 1) ∙ label.1 ∙ ap (λ (l : List ℕ). label_bytes c.in-ok-label.label ++ l) none in
-    (omega (arith, c.type-inv.body 0), label.0, begins 1 bs (omega (arith, ltb-false)) ∙ (λ i. get_or bs 0 0 ∷ rest i))
+    let label = c.in_ok-label.ensures in
+    let none = nil_from_length c.in_ok-label.rest.now (true-eqb _ 0 c.if-not-is_empty.ensures) in
+    let rest = sym (take_rest bs 1) ∙ label.1 ∙ ap (λ (l : List ℕ). label_bytes c.in_ok-label.label ++ l) none in
+    (omega (arith, c.type_inv.body 0), label.0, begins 1 bs (omega (arith, ltb-false)) ∙ (λ i. get_or bs 0 0 ∷ rest i))

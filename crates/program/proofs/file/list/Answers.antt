@@ -12,7 +12,7 @@ loop-left-smaller c = shorter _ _ _ c.in-Ok.ensures
 
 pub loop-left-preserved : goal.loop-left-preserved
 loop-left-preserved c =
-    let pushed = chosen _ _ _ _ c.push.ensures.items (ap is_ok c.in-ok-push.was) in
+    let pushed = chosen _ _ _ _ c.push.ensures.items (ap is_ok c.in_ok-push-in-Ok.was) in
     subst (λ (l : List Record). Sofar c.args.bytes.now l c.in-Ok.rest.now) (sym pushed) (one_more _ _ c.loop-left.invariant c.in-Ok.ensures)
 
 pub returns-in-Refused : goal.returns-in-Refused

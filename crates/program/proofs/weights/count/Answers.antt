@@ -7,9 +7,9 @@ use Rattle.program.proofs.weights.count.Goals as goal
 
 pub loop-item-preserved : goal.loop-item-preserved
 loop-item-preserved c = (
-  omega (arith, c.saturating-add-sum.ensures),
+  omega (arith, c.saturating_add-sum.ensures),
   count_next _ _ 18446744073709551615 c.args.records.now c.loop-item.item-index _ c.loop-item-test.true c.item-item.is
-      (c.saturating-add-sum.ensures ∙ ap (λ (n : ℕ). min (c.loop-item.sum + n) 18446744073709551615) c.label-count.ensures)
+      (c.saturating_add-sum.ensures ∙ ap (λ (n : ℕ). min (c.loop-item.sum + n) 18446744073709551615) c.label_count.ensures)
       ∙ c.loop-item.invariant.1,
 )
 

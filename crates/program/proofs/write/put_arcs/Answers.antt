@@ -9,7 +9,7 @@ use Rattle.program.proofs.write.put_arcs.Goals as goal
 
 pub loop-arc-preserved : goal.loop-arc-preserved
 loop-arc-preserved c =
-    let put = c.in-ok-put-arc.ensures in
+    let put = c.in_ok-put_arc.ensures in
     let more = take_more c.args.arcs.now c.loop-arc.arc-index (record { from = 0; to = 0; label = record { cycles = 0; ports = 0 } }) c.loop-arc-test.true in (
       subst (AllByRecursion FitsArc) (sym more) (all_by_recursion_push FitsArc _ _ c.loop-arc.invariant.0 put.0),
       joined_next arc_bytes c.args.arcs.now _ _ _ _ _ c.loop-arc-test.true c.loop-arc.invariant.1 put.1,

@@ -5,13 +5,13 @@ use Rattle.rows.specs.Search.{noted}
 use Rattle.rows.proofs.Unrolling.{shape_of, agree_below, shelf_keeps, same_past, kept_below}
 use Rattle.rows.proofs.unroll.unroll.Goals as goal
 
-pub returns-in-default : goal.returns-in-default
-returns-in-default g c =
+pub returns-in_default : goal.returns-in_default
+returns-in_default g c =
     let kept = c.walk.ensures.below in
     record {
       past = c.walk.ensures.past;
       others = λ j low out. agree_below _ _ 2048 kept j low;
-      cases = (c.in-default.ensures.cases, kept);
+      cases = (c.in_default.ensures.cases, kept);
     }
 
 pub returns-then-transient-period-gt64 : goal.returns-then-transient-period-gt64
@@ -29,11 +29,11 @@ returns-then-transient-period-gt64 g c =
       cases = (
         record {
           reply = number;
-          transient = c.least-transient-transient.result;
-          period = c.least-period-period.result;
+          transient = c.least_transient-transient.result;
+          period = c.least_period-period.result;
           soon = turn.0;
           first = record { earlier = (earlier, turn.1, turn.2); fresh = turn.3 };
-          least = shape_of {m = m} rule (noted m (meanings f c.walk.new.cells)) earlier number _ _ turn.1 turn.2 turn.4 c.least-period-period.ensures c.least-transient-transient.ensures;
+          least = shape_of {m = m} rule (noted m (meanings f c.walk.new.cells)) earlier number _ _ turn.1 turn.2 turn.4 c.least_period-period.ensures c.least_transient-transient.ensures;
           long = c.if-transient-period-gt64.true;
         },
         kept,
@@ -52,10 +52,10 @@ returns g c =
     let before = c.walk.new.cells in
     let after = c.fill.new.cells in
     let shelf = c.args.shelf in
-    let t = c.least-transient-transient.result in
-    let d = c.least-period-period.result in
+    let t = c.least_transient-transient.result in
+    let d = c.least_period-period.result in
     let filled = c.fill.ensures in
-    let least = shape_of {m = m} rule (noted m (meanings f before)) earlier number d t turn.1 turn.2 turn.4 c.least-period-period.ensures c.least-transient-transient.ensures in
+    let least = shape_of {m = m} rule (noted m (meanings f before)) earlier number d t turn.1 turn.2 turn.4 c.least_period-period.ensures c.least_transient-transient.ensures in
     let few : t + d ≤ number = omega (arith, turn.1) in
     record {
       past = same_past after before 4096 filled.len (λ j far. filled.others j (inr (omega arith))) ∙ c.walk.ensures.past;

@@ -44,7 +44,7 @@ loop-n-preserved g c =
     let few = c.loop-n-test.true in
     let wrote = c.note.ensures in (
       walked_more (over (meanings f (take 2048 c.args.cells.now))) n c.loop-n.s c.look-pause.result.next c.loop-n.situations (meanings f cells) (meanings f c.note.new.cells) c.loop-n.invariant.0 few
-          c.in-default.ensures
+          c.in_default.ensures
           (c.look-pause.ensures.next ∙ ap (λ cs. (over cs).next c.loop-n.s) shelves)
           (ap (λ xs. noted m (meanings f xs) n) wrote ∙ noted_now m f cells n p e room few
           ∙ (λ i. (c.look-pause.ensures.pause i, c.look-pause.ensures.exit i))

@@ -23,7 +23,7 @@ returns-in-Ok g c =
     let done = c.in-Ok.ensures in
     let puts = done.1 in
     let at = ap (λ (x : ShelfState). x.step) c.at.ensures in
-    let holds = there (shelf_at s c.args.shelf).step c.requires.1.1.1.0.0 ∙ ap (λ (o : Option ℕ). Some (unwrap_or o 0)) (sym at) ∙ ap Some (sym c.unwrap-or-i.ensures) in (
+    let holds = there (shelf_at s c.args.shelf).step c.requires.1.1.1.0.0 ∙ ap (λ (o : Option ℕ). Some (unwrap_or o 0)) (sym at) ∙ ap Some (sym c.unwrap_or-i.ensures) in (
       all_then (Yes m s (loop c.args.shelf)) early (NeverRepeats ∷ TooLong ∷ []) c.requires (((c.in-Ok.number, done.0.0, done.0.1), tt), (((puts.transient, puts.period, puts.keeps.least, puts.short), tt), tt)),
-      (done.0, (c.unwrap-or-i.result, holds, puts)),
+      (done.0, (c.unwrap_or-i.result, holds, puts)),
     )

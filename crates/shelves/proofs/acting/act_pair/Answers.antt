@@ -22,9 +22,9 @@ returns-in-Ok g c =
     let done = c.in-Ok.ensures in
     let puts = done.1 in
     let at = ap (λ (x : ShelfState). x.step) c.at.ensures in
-    let at_2 = ap (λ (x : ShelfState). x.step) c.at_2.ensures in
-    let first = there (shelf_at s c.args.first).step c.requires.1.1.1.0.0 ∙ ap (λ (o : Option ℕ). Some (unwrap_or o 0)) (sym at) ∙ ap Some (sym c.unwrap-or-i.ensures) in
-    let second = there (shelf_at s c.args.second).step c.requires.1.1.1.0.1.0 ∙ ap (λ (o : Option ℕ). Some (unwrap_or o 0)) (sym at_2) ∙ ap Some (sym c.unwrap-or-j.ensures) in (
+    let at_2 = ap (λ (x : ShelfState). x.step) c.at-2.ensures in
+    let first = there (shelf_at s c.args.first).step c.requires.1.1.1.0.0 ∙ ap (λ (o : Option ℕ). Some (unwrap_or o 0)) (sym at) ∙ ap Some (sym c.unwrap_or-i.ensures) in
+    let second = there (shelf_at s c.args.second).step c.requires.1.1.1.0.1.0 ∙ ap (λ (o : Option ℕ). Some (unwrap_or o 0)) (sym at_2) ∙ ap Some (sym c.unwrap_or-j.ensures) in (
       all_then (Yes m s (pair c.args.kind c.args.first c.args.second)) early (NeverRepeats ∷ TooLong ∷ []) c.requires (((c.in-Ok.number, done.0.0, done.0.1), tt), (((puts.transient, puts.period, puts.keeps.least, puts.short), tt), tt)),
-      (done.0, (c.unwrap-or-i.result, c.unwrap-or-j.result, state_of m g.V.Algebra.means c.put-pair.new.core, first, second, puts, c.empty.ensures)),
+      (done.0, (c.unwrap_or-i.result, c.unwrap_or-j.result, state_of m g.V.Algebra.means c.put_pair.new.core, first, second, puts, c.empty.ensures)),
     )

@@ -4,6 +4,6 @@ use Rattle.shelves.specs.Questions.{Yes, AllYes}
 use Rattle.shelves.specs.Refusals.{early}
 use Rattle.shelves.proofs.answering.act.Goals as goal
 
-pub act-table-requires : goal.act-table-requires
-act-table-requires g c =
+pub act_table-requires : goal.act_table-requires
+act_table-requires g c =
     subst (λ call. AllYes (Yes g.V.Algebra.model (state_of g.V.Algebra.model g.V.Algebra.means c.args.core.now) (call_of call)) early) c.in-Table.is c.requires

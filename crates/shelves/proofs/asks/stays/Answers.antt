@@ -15,4 +15,4 @@ returns g c =
     present_at g.V.Algebra.means (take 2048 cells) (128 * c.args.k + 64 + 0)
     ∙ ap (λ (i : ℕ). is_some (get_or (take 2048 cells) i None)) {y = j} (omega arith)
     ∙ ap is_some (get_or-take 2048 cells j None (omega arith) ∙ sym (get_or_read cells j _ (omega arith) c.index-cells-k.is None))
-    ∙ c.is-none.ensures
+    ∙ c.is_none.ensures

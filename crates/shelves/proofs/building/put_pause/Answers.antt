@@ -19,9 +19,9 @@ returns g c =
       transient = 2;
       period = 1;
       short = omega arith;
-      keeps = subst (λ xs. Keeps m (pause_row m c.args.label) c.args.k 2 1 (meanings f (take 2048 xs))) (sym is) c.write-pause.ensures.keeps;
+      keeps = subst (λ xs. Keeps m (pause_row m c.args.label) c.args.k 2 1 (meanings f (take 2048 xs))) (sym is) c.write_pause.ensures.keeps;
       others = others_mean f (OfShelf c.args.k) core.cells.now after.cells.now
-          (λ j less out. ap (λ xs. get_or xs j None) is ∙ c.write-pause.ensures.others j less out ∙ ap (λ xs. get_or xs j None) was);
+          (λ j less out. ap (λ xs. get_or xs j None) is ∙ c.write_pause.ensures.others j less out ∙ ap (λ xs. get_or xs j None) was);
       shelves = c.settle.ensures.shelves;
       steps = c.settle.ensures.steps;
       arcs = ap arcs_of c.settle.ensures.arcs ∙ sym (append-nil (arcs_of core.arcs));

@@ -6,4 +6,4 @@ pub returns : goal.returns
 returns g c =
     let m = g.V.Algebra.model in
     let rows = rows_of m (meanings g.V.Algebra.means c.args.cells.now) c.args.piece.now in
-    both_at m rows c.args.k c.requires.phase _ _ _ c.join.ensures c.at.ensures c.at_2.ensures
+    both_at m rows c.args.k c.requires.phase _ _ _ c.join.ensures c.at.ensures c.at-2.ensures

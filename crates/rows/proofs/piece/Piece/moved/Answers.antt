@@ -5,7 +5,7 @@ use Rattle.rows.specs.Sets.{has, image, with_member}
 use Rattle.rows.proofs.Cells.{present_means}
 use Rattle.rows.proofs.Walks.{image_more, image_past}
 use Rattle.rows.proofs.piece.Piece.moved.Goals as goal
-use Rattle.rows.proofs.piece.Piece.moved.Goals.{then-has+then-is-some, else-has, else-has-via-then-has+else-is-some, else-has-via-else-has}
+use Rattle.rows.proofs.piece.Piece.moved.Goals.{then-has+then-is_some, else-has, else-has-via-then-has+else-is_some, else-has-via-else-has}
 
 pub loop-k-preserved : goal.loop-k-preserved
 loop-k-preserved g c =
@@ -14,15 +14,15 @@ loop-k-preserved g c =
     let k = c.loop-k.k in
     let test : ℕ → Bool = λ j. has c.args.set j && is_some (rows.p j) in
     elim c.if-has.branch [
-      | then-has+then-is-some w ↦
-          let here : test k ≡ true = and_from _ _ (sym w.if-has.ensures) (sym (ap is_some w.at.ensures) ∙ present_means f _ ∙ sym w.if-is-some.ensures) in
+      | then-has+then-is_some w ↦
+          let here : test k ≡ true = and_from _ _ (sym w.if-has.ensures) (sym (ap is_some w.at.ensures) ∙ present_means f _ ∙ sym w.if-is_some.ensures) in
           w.after-is ∙ w.with-after.ensures
           ∙ ap (λ (s : ℕ). with_member s w.after.result) c.loop-k.invariant
           ∙ ap (with_member (image test (next_phase rows) k)) w.after.ensures.value
           ∙ sym (image_more test (next_phase rows) k here)
       | else-has w ↦
           let past : test k ≡ false = elim w.else-has.branch [
-            | else-has-via-then-has+else-is-some w' ↦ and_right _ _ (sym (ap is_some w'.at.ensures) ∙ present_means f _ ∙ sym w'.if-is-some.ensures)
+            | else-has-via-then-has+else-is_some w' ↦ and_right _ _ (sym (ap is_some w'.at.ensures) ∙ present_means f _ ∙ sym w'.if-is_some.ensures)
             | else-has-via-else-has w' ↦ and_left _ _ (sym w'.if-has.ensures)
           ] in
           w.after-is ∙ c.loop-k.invariant ∙ sym (image_past test (next_phase rows) k past)
