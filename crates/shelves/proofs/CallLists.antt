@@ -1,5 +1,5 @@
 -- Lists of calls: one call more, what they leave, and the history that they make.
-use Rattle.std.proofs.Common.{◌≡◌, ℕ, ◌+◌, ◌<◌, List, [], ◌∷◌, ◌++◌, map, length, get_or, take, set, sym, refl, ap, ◌∙◌, subst, ap₂, subst₂, arith}
+use Rattle.std.proofs.Common.{◌≡◌, ℕ, ◌+◌, ◌<◌, List, [], ◌∷◌, ◌++◌, map, length, get_or, take, set, sym, refl, ap, ◌∙◌, subst, subst₂, arith}
 use Rattle.std.proofs.lemmas.List.{map_push, take_more, take_more_set, length-map, length-take-le}
 use Rattle.algebra.specs.Model.{Model}
 use Rattle.shelves.specs.Calls.{Call, Reply, Event}

@@ -1,5 +1,5 @@
 -- Every call keeps the invariant, whatever its reply.
-use Rattle.std.proofs.Common.{◌≡◌, ℕ, zero, suc, ◌≤◌, true, false, [], is_some, Some, None, Option, sym, refl, ap, subst, ap₂, arith}
+use Rattle.std.proofs.Common.{◌≡◌, ℕ, zero, suc, ◌≤◌, false, [], is_some, Some, None, Option, sym, refl, ap, subst, ap₂, arith}
 use Rattle.std.specs.Option.{option_map}
 use Rattle.std.proofs.lemmas.Bool.{true≢false}
 use Rattle.algebra.specs.declared.label.Label.{Label}

@@ -1,5 +1,5 @@
 -- The step that a call records spells the plan that it enters.
-use Rattle.std.proofs.Common.{ℕ, ◌<◌, List, [], ◌∷◌, ◌++◌, length, take, drop, sym, refl, ap, ◌∙◌, arith}
+use Rattle.std.proofs.Common.{ℕ, ◌<◌, List, [], ◌∷◌, ◌++◌, length, take, sym, refl, ap, ◌∙◌, arith}
 use Rattle.std.proofs.lemmas.List.{length-append, length_push, get_or_push, drop_at, take_all}
 use Rattle.algebra.specs.declared.arc.Arc.{Arc}
 use Rattle.algebra.specs.declared.label.Label.{Label}

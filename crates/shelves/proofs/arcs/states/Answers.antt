@@ -1,4 +1,4 @@
-use Rattle.std.proofs.Common.{◌≤◌, ◌⊎◌, get_or, take, sym, subst, ⊎_elim, arith}
+use Rattle.std.proofs.Common.{◌≤◌, ◌⊎◌, get_or, sym, subst, ⊎_elim, arith}
 use Rattle.std.proofs.lemmas.List.{take_all}
 use Rattle.std.proofs.lemmas.Bool.{cases_lt}
 use Rattle.algebra.specs.declared.arc.Arc.{Arc}

@@ -1,4 +1,4 @@
-use Rattle.std.proofs.Common.{ℕ, ◌+◌, ◌*◌, length, get_or, take, is_some, None, sym, ap, ◌∙◌, arith}
+use Rattle.std.proofs.Common.{ℕ, ◌+◌, ◌*◌, get_or, take, is_some, None, sym, ap, ◌∙◌, arith}
 use Rattle.std.proofs.lemmas.List.{get_or_past, get_or-take, get_or_read, length-take}
 use Rattle.shelves.proofs.Present.{present_at}
 use Rattle.shelves.proofs.asks.stays.Goals as goal

@@ -16,3 +16,8 @@ returns-in-Accepted g c =
       answers = record { does = does; made = λ h made. (c.in-Accepted.ensures.promise h made).0; kept = λ h made. (c.in-Accepted.ensures.promise h made).1 };
       fills = fills m (call_of c.args.call) c.in-Accepted.number (state_of m f before) (state_of m f c.answer.new.core) many does;
     }
+
+pub returns-in-Refused-clause-answers : goal.returns-in-Refused-clause-answers
+returns-in-Refused-clause-answers g c =
+    let told = c.in-Refused.ensures in
+    record { does = told.does; made = λ h made. (told.promise h made).0; kept = λ h made. (told.promise h made).1 }

@@ -1,4 +1,4 @@
-use Rattle.std.proofs.Common.{Some, None, refl, ap, arith}
+use Rattle.std.proofs.Common.{Some, None, refl, arith}
 use Rattle.shelves.specs.Effects.{pause_row}
 use Rattle.shelves.proofs.LeafRows.{pause_shape, noting_none, noting_more, noting_kept, fill_others, fill_past}
 use Rattle.shelves.proofs.leaves.write_pause.Goals as goal
