@@ -4,6 +4,7 @@ ghost use Rattle.std.specs.Prelude.{◌≤◌, length};
 use crate::tables::{Arcs, Shelves, Steps};
 use algebra::algebra::Algebra;
 
+#[derive(Drop)]
 pub struct Core<'a, V: Algebra> {
     pub cells: &'a mut [Option<V>],
     pub shelves: Shelves,

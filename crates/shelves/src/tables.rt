@@ -5,12 +5,14 @@ use crate::shelf::Shelf;
 use algebra::arc::Arc;
 use runs::step::Step;
 
+#[derive(Drop)]
 pub struct Shelves {
     pub items: [Shelf; 16],
     ghost long: { length items ≡ 16 },
 }
 
 // Of the items the first `count` are recorded.
+#[derive(Drop)]
 pub struct Steps {
     pub items: [Step; 512],
     pub count: usize,
@@ -18,6 +20,7 @@ pub struct Steps {
     ghost long: { length items ≡ 512 },
 }
 
+#[derive(Drop)]
 pub struct Arcs {
     pub items: [Arc; 512],
     pub count: usize,
