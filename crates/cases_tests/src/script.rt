@@ -37,21 +37,28 @@ fn reports<V: Told>(
     let report = rack.report(shelf)?;
     assert_eq!(rt; (report.transient, report.period), shape);
     match report.figure {
-        Some(figure) => figure.told(report.tick, awaited),
-        None => Err(Fail::new("no figure")),
+        Some(figure) => figure.told(rt, report.tick, awaited),
+        None => return Err(Fail::new("no figure")),
     }
+    Ok(())
 }
 
-fn play<V: Told>(rt: &impl Abort, rack: &mut Rack<V>, line: Line) -> Result<(), Fail> {
+// Plays one line; a failed check names it by its place in the script.
+fn play<V: Told>(
+    rt: &impl Abort,
+    rack: &mut Rack<V>,
+    line: Line,
+    place: usize,
+) -> Result<(), Fail> {
     match line {
         Line::Done(deed, number) => {
-            assert_eq!(rt; perform(rack, deed)?, number);
+            assert_eq!(rt; perform(rack, deed)?, number, "line {place}");
             Ok(())
         },
         Line::Refused(deed, number) => match perform(rack, deed) {
             Ok(_) => Err(Fail::new("done")),
             Err(why) => {
-                assert_eq!(rt; why.number(), number);
+                assert_eq!(rt; why.number(), number, "line {place}");
                 Ok(())
             },
         },
@@ -61,7 +68,7 @@ fn play<V: Told>(rt: &impl Abort, rack: &mut Rack<V>, line: Line) -> Result<(), 
         Line::NoReport(shelf, number) => match rack.report(shelf) {
             Ok(_) => Err(Fail::new("reported")),
             Err(why) => {
-                assert_eq!(rt; why.number(), number);
+                assert_eq!(rt; why.number(), number, "line {place}");
                 Ok(())
             },
         },
@@ -76,10 +83,10 @@ pub fn play_all<V: Told>(
 ) -> Result<(), Fail> {
     assert!(rt; enough(cells));
     let mut rack = Rack::open(cells);
-    play(rt, &mut rack, PAUSE)?;
+    play(rt, &mut rack, PAUSE, 0)?;
     for (k, line) in script.iter().enumerate() {
-        play(rt, &mut rack, *line).note(format_args!("line {k}"))?;
-        play(rt, &mut rack, ITS_REPORT)?;
+        play(rt, &mut rack, *line, k)?;
+        play(rt, &mut rack, ITS_REPORT, k)?;
     }
     Ok(())
 }

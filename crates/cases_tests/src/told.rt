@@ -4,7 +4,7 @@ use algebra::best::Best;
 use algebra::pair::Pair;
 use algebra::ports::Ports;
 use algebra::worst::Worst;
-use std::test::*;
+use std::process::Abort;
 
 // What is awaited: a figure with the first tick that reaches it, or a figure alone. The pair's is worst's beside the
 // ports.
@@ -17,37 +17,33 @@ pub struct Figures {
 
 pub trait Told: Algebra {
     // Are a report's figure and tick as awaited?
-    fn told(self, tick: Option<usize>, awaited: Figures) -> Result<(), Fail>;
+    fn told(self, rt: &impl Abort, tick: Option<usize>, awaited: Figures);
 }
 
 impl Told for Worst {
-    fn told(self, tick: Option<usize>, awaited: Figures) -> Result<(), Fail> {
+    fn told(self, rt: &impl Abort, tick: Option<usize>, awaited: Figures) {
         let (figure, first) = awaited.worst;
-        assert_eq!((self.cycles, tick), (figure, Some(first)));
-        Ok(())
+        assert_eq!(rt; (self.cycles, tick), (figure, Some(first)));
     }
 }
 
 impl Told for Best {
-    fn told(self, tick: Option<usize>, awaited: Figures) -> Result<(), Fail> {
+    fn told(self, rt: &impl Abort, tick: Option<usize>, awaited: Figures) {
         let (figure, first) = awaited.best;
-        assert_eq!((self.cycles, tick), (figure, Some(first)));
-        Ok(())
+        assert_eq!(rt; (self.cycles, tick), (figure, Some(first)));
     }
 }
 
 impl Told for Ports {
-    fn told(self, tick: Option<usize>, awaited: Figures) -> Result<(), Fail> {
-        assert_eq!((self.bits, tick), (awaited.ports, None));
-        Ok(())
+    fn told(self, rt: &impl Abort, tick: Option<usize>, awaited: Figures) {
+        assert_eq!(rt; (self.bits, tick), (awaited.ports, None));
     }
 }
 
 impl Told for Pair<Worst, Ports> {
-    fn told(self, tick: Option<usize>, awaited: Figures) -> Result<(), Fail> {
+    fn told(self, rt: &impl Abort, tick: Option<usize>, awaited: Figures) {
         let (figure, _) = awaited.worst;
         let both = (self.first.cycles, self.second.bits);
-        assert_eq!((both, tick), ((figure, awaited.ports), None));
-        Ok(())
+        assert_eq!(rt; (both, tick), ((figure, awaited.ports), None));
     }
 }
