@@ -4,10 +4,10 @@ use mathlib.Core.List.{Memᴰ as Among}
 use Rattle.std.proofs.ByRecursion.{All-get_or}
 use Rattle.std.proofs.lemmas.List.{take_more}
 use Rattle.std.proofs.lemmas.Bool.{false≢true, leb-false}
-use Rattle.std.specs.List.{AllByRecursion as All}
+use Rattle.std.specs.List.{AllByRecursion}
 
 -- one element that fails, and not all pass
-pub fails : {X : Type 0} (P : X → Type 0) (xs : List X) (i : ℕ) (d : X) → i < length xs → (P (get_or xs i d) → ⊥) → Decides false (All P xs)
+pub fails : {X : Type 0} (P : X → Type 0) (xs : List X) (i : ℕ) (d : X) → i < length xs → (P (get_or xs i d) → ⊥) → Decides false (AllByRecursion P xs)
 fails P xs i d less no_pass = (λ e. absurd (false≢true e), λ all. absurd (no_pass (All-get_or P xs i d less all)))
 
 -- what holds passes
@@ -18,7 +18,7 @@ passes all = (λ e. all, λ all'. refl)
 pub not_within : (a b : ℕ) → leb a b ≡ false → a ≤ b → ⊥
 not_within a b e h = let far = leb-false a b e in omega arith
 
-pub unmapped : {X Y : Type 0} (P : Y → Type 0) (f : X → Y) (xs : List X) → All P (map f xs) → All (λ x. P (f x)) xs
+pub unmapped : {X Y : Type 0} (P : Y → Type 0) (f : X → Y) (xs : List X) → AllByRecursion P (map f xs) → AllByRecursion (λ x. P (f x)) xs
 unmapped P f [] all = tt
 unmapped P f (x ∷ xs) all = (all.0, unmapped P f xs all.1)
 
@@ -29,7 +29,7 @@ among_at (x ∷ xs) zero d less = Among.head refl
 among_at (x ∷ xs) (suc i) d less = Among.tail (among_at xs i d (le_of_suc-le-suc less))
 
 -- what holds of all holds of each
-pub all_among : {X : Type 0} (P : X → Type 0) (xs : List X) (x : X) → All P xs → Among x xs → P x
+pub all_among : {X : Type 0} (P : X → Type 0) (xs : List X) (x : X) → AllByRecursion P xs → Among x xs → P x
 all_among P [] x all m = elim m [ ]
 all_among P (y ∷ xs) x all (Among.head e) = subst P (sym e) all.0
 all_among P (y ∷ xs) x all (Among.tail m) = all_among P xs x all.1 m

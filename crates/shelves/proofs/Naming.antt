@@ -1,6 +1,6 @@
 -- Filled shelves: what an accepted call fills, and what stays filled.
 use Rattle.std.proofs.Common.{◌≡◌, ℕ, ◌≤◌, ◌≢◌, List, length, get_or, set, is_some, sym, ap, ◌∙◌, subst, arith}
-use Rattle.std.specs.List.{AllByRecursion as All}
+use Rattle.std.specs.List.{AllByRecursion}
 use Rattle.std.proofs.lemmas.List.{get_or-set_same, get_or-set_other}
 use Rattle.algebra.specs.declared.arc.Arc.{Arc}
 use Rattle.algebra.specs.Model.{Model}
@@ -25,7 +25,7 @@ module _ (m : Model) where
       ∙ filled
 
   -- an accepted call fills its shelves: of two put together, the one that is emptied is another
-  pub fills : (c : Call) (n : ℕ) (s s' : State m) → length s.shelves ≡ 16 → Does m c (accepted n) s s' → All (IsFilled s') (filled_by c)
+  pub fills : (c : Call) (n : ℕ) (s s' : State m) → length s.shelves ≡ 16 → Does m c (accepted n) s s' → AllByRecursion (IsFilled s') (filled_by c)
   fills (node k l) n s s' many does = (put_fills _ k _ _ s s' many does.0.0.0 does.1.1, tt)
   fills (pause k l) n s s' many does = (put_fills _ k _ _ s s' many does.0.0.0 does.1.1, tt)
   fills (table k arcs) n s s' many does = (put_fills _ k _ _ s s' many does.0.0.0 does.1.1, tt)
@@ -38,7 +38,7 @@ module _ (m : Model) where
   fills (report k) n s s' many does = tt
 
   -- a filled shelf that a call does not name stays filled
-  pub stays_filled : (c : Call) (r : Reply m) (s s' : State m) → Does m c r s s' → (j : ℕ) → All (λ k. j ≢ k) (named c) → IsFilled s j → IsFilled s' j
+  pub stays_filled : (c : Call) (r : Reply m) (s s' : State m) → Does m c r s s' → (j : ℕ) → AllByRecursion (λ k. j ≢ k) (named c) → IsFilled s j → IsFilled s' j
   stays_filled c (refused q) s s' does j apart filled = subst (λ u. IsFilled u j) (sym does.1) filled
   stays_filled c (reported t) s s' does j apart filled = subst (λ u. IsFilled u j) (sym does.2) filled
   stays_filled (node k l) (accepted n) s s' does j apart filled = other_filled s s' k _ does.1.1.shelves j apart.0 filled

@@ -1,7 +1,7 @@
 -- The questions that are asked before a call, and the first no.
 use Rattle.std.specs.Prelude.{◌≡◌, ℕ, ◌+◌, ◌<◌, ◌≤◌, true, false, ◌≢◌, ◌⊎◌, List, [], ◌∷◌, length, is_some}
 use mathlib.Core.List.{Memᴰ as Among}
-use Rattle.std.specs.List.{AllByRecursion as All}
+use Rattle.std.specs.List.{AllByRecursion}
 use Rattle.algebra.specs.declared.arc.Arc.{Arc}
 use Rattle.algebra.specs.Model.{Model}
 use Rattle.rows.specs.Pieces.{Rows, exit_at}
@@ -42,7 +42,7 @@ pair_rule m Abort = abort_rule.abort m
 -- no two are one
 abbrev pub Distinct : List ℕ → Type 0
 Distinct [] = Unit {0}
-Distinct (k ∷ ks) = All (λ j. k ≢ j) ks × Distinct ks
+Distinct (k ∷ ks) = AllByRecursion (λ j. k ≢ j) ks × Distinct ks
 
 -- does one of situations 0 to 1,023 equal an earlier one?
 abbrev pub RepeatsSoon : {m : Model} → Rule m → Type 0
@@ -66,18 +66,18 @@ module _ (m : Model) (s : State m) where
   -- the questions of a call, each by the refusal that its no gives; one that does not concern the call is yes
   abbrev pub Yes : Call → Refusal → Type 0
   Yes c FewCells = Unit {0}
-  Yes c NoShelf = All (λ k. k ≤ 15) (named c)
+  Yes c NoShelf = AllByRecursion (λ k. k ≤ 15) (named c)
   Yes c SameShelf = Distinct (named c)
-  Yes c ShelfTaken = All (λ k. is_some (shelf_at s k).step ≡ false) (about c).fresh
-  Yes c ShelfEmpty = All (λ k. is_some (shelf_at s k).step ≡ true) (about c).used
-  Yes c ManyCycles = All (λ l. l.cycles ≤ 1073741823) (about c).labels
-  Yes c BadArcs = All (λ arcs. (1 ≤ length arcs) × (length arcs ≤ 512) × All LawfulArc arcs) (about c).tables
-  Yes c StateWithoutArc = All (λ arcs. (q : ℕ) → UpToNamed arcs q → Begins arcs q) (about c).tables
+  Yes c ShelfTaken = AllByRecursion (λ k. is_some (shelf_at s k).step ≡ false) (about c).fresh
+  Yes c ShelfEmpty = AllByRecursion (λ k. is_some (shelf_at s k).step ≡ true) (about c).used
+  Yes c ManyCycles = AllByRecursion (λ l. l.cycles ≤ 1073741823) (about c).labels
+  Yes c BadArcs = AllByRecursion (λ arcs. (1 ≤ length arcs) × (length arcs ≤ 512) × AllByRecursion LawfulArc arcs) (about c).tables
+  Yes c StateWithoutArc = AllByRecursion (λ arcs. (q : ℕ) → UpToNamed arcs q → Begins arcs q) (about c).tables
   Yes c StepsFull = (about c).builds ≡ true → length s.steps < 512
-  Yes c ArcsFull = All (λ arcs. length s.arcs + length arcs ≤ 512) (about c).tables
-  Yes c LeavesAtOnce = All (λ k. is_some (exit_at (shelf_rows s k) 0) ≡ false) (about c).looped
-  Yes c NeverRepeats = All RepeatsSoon (unrolled c)
-  Yes c TooLong = All Short (unrolled c)
+  Yes c ArcsFull = AllByRecursion (λ arcs. length s.arcs + length arcs ≤ 512) (about c).tables
+  Yes c LeavesAtOnce = AllByRecursion (λ k. is_some (exit_at (shelf_rows s k) 0) ≡ false) (about c).looped
+  Yes c NeverRepeats = AllByRecursion RepeatsSoon (unrolled c)
+  Yes c TooLong = AllByRecursion Short (unrolled c)
 
 -- every question says yes
 abbrev pub AllYes : (Refusal → Type 0) → List Refusal → Type 0

@@ -1,13 +1,13 @@
 // The questions of a table's arcs.
 ghost use Rattle.std.specs.Prelude.{ℕ, ◌<◌, ◌≤◌, ◌⊎◌, map, Decides};
-ghost use Rattle.std.specs.List.{AllByRecursion as All};
+ghost use Rattle.std.specs.List.{AllByRecursion};
 ghost use Rattle.shelves.specs.Questions.{LawfulArc, UpToNamed, Begins};
 
 use algebra::arc::{Arc, OUT};
 
 // Are all cycles within the limit?
 pub fn light(arcs: &[Arc]) -> bool
-    ensures { Decides result (All (λ l. l.cycles ≤ 1073741823) (map (λ a. a.label) arcs.now)) }
+    ensures { Decides result (AllByRecursion (λ l. l.cycles ≤ 1073741823) (map (λ a. a.label) arcs.now)) }
 {
     for arc in arcs {
         if !arc.label.allowed() {
@@ -26,7 +26,7 @@ fn lawful_arc(arc: Arc) -> bool
 
 // Does every arc?
 pub fn lawful(arcs: &[Arc]) -> bool
-    ensures { Decides result (All LawfulArc arcs.now) }
+    ensures { Decides result (AllByRecursion LawfulArc arcs.now) }
 {
     for arc in arcs {
         if !lawful_arc(*arc) {

@@ -1,6 +1,6 @@
 // Asking a call's questions in their order.
 ghost use Rattle.std.specs.Prelude.{◌≡◌, ◌+◌, ◌*◌, ◌≤◌, false, not, length, take, is_some, None as absent, Decides, MatchOption, slice_index_or};
-ghost use Rattle.std.specs.List.{AllByRecursion as All};
+ghost use Rattle.std.specs.List.{AllByRecursion};
 ghost use Rattle.rows.specs.Pieces.{meanings};
 ghost use Rattle.shelves.specs.Calls.{about};
 ghost use Rattle.shelves.specs.Held.{call_of, state_of};
@@ -29,7 +29,7 @@ fn stays<V: Algebra>(cells: &[Option<V>], k: u8) -> bool
 // Is a loop's exit absent at tick 0?
 fn staying<V: Algebra>(cells: &[Option<V>], call: Call) -> bool
     requires { 4096 ≤ length cells.now }
-    ensures { Decides result (All (λ k. is_some (slice_index_or (meanings V.means (take 2048 cells.now)) (128 * k + 64 + 0) absent) ≡ false) (about (call_of call.entry)).looped) }
+    ensures { Decides result (AllByRecursion (λ k. is_some (slice_index_or (meanings V.means (take 2048 cells.now)) (128 * k + 64 + 0) absent) ≡ false) (about (call_of call.entry)).looped) }
 {
     match call {
         Call::Loop { shelf } => stays(cells, shelf),

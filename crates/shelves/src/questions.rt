@@ -1,6 +1,6 @@
 // The questions of a call, one function each; what a question does not concern is yes.
 ghost use Rattle.std.specs.Prelude.{◌≡◌, ℕ, ◌+◌, ◌<◌, ◌≤◌, true, false, length, is_some, Decides, slice_index_or};
-ghost use Rattle.std.specs.List.{AllByRecursion as All};
+ghost use Rattle.std.specs.List.{AllByRecursion};
 ghost use Rattle.shelves.specs.Calls.{about, named};
 ghost use Rattle.shelves.specs.Held.{call_of};
 ghost use Rattle.shelves.specs.Questions.{Distinct, LawfulArc, UpToNamed, Begins};
@@ -14,7 +14,7 @@ use algebra::label::MOST_CYCLES;
 
 // Is each shelf number at most 15?
 pub fn numbered(call: Call) -> bool
-    ensures { Decides result (All (λ k. k ≤ 15) (named (call_of call.entry))) }
+    ensures { Decides result (AllByRecursion (λ k. k ≤ 15) (named (call_of call.entry))) }
 {
     match call {
         Call::Pair { first, second, .. } => (first <= 15) & (second <= 15),
@@ -51,7 +51,7 @@ fn filled(shelves: &Shelves, k: u8) -> bool
 
 // Is a new leaf's shelf empty?
 pub fn vacant(shelves: &Shelves, call: Call) -> bool
-    ensures { Decides result (All (λ k. is_some (slice_index_or (shelves_of shelves.now) k empty_shelf).step ≡ false) (about (call_of call.entry)).fresh) }
+    ensures { Decides result (AllByRecursion (λ k. is_some (slice_index_or (shelves_of shelves.now) k empty_shelf).step ≡ false) (about (call_of call.entry)).fresh) }
 {
     match call {
         Call::Node { shelf, .. } => !filled(shelves, shelf),
@@ -66,7 +66,7 @@ pub fn vacant(shelves: &Shelves, call: Call) -> bool
 
 // Is each shelf that another call names filled?
 pub fn occupied(shelves: &Shelves, call: Call) -> bool
-    ensures { Decides result (All (λ k. is_some (slice_index_or (shelves_of shelves.now) k empty_shelf).step ≡ true) (about (call_of call.entry)).used) }
+    ensures { Decides result (AllByRecursion (λ k. is_some (slice_index_or (shelves_of shelves.now) k empty_shelf).step ≡ true) (about (call_of call.entry)).used) }
 {
     match call {
         Call::Node { .. } => true,
@@ -100,7 +100,7 @@ pub fn recordable(steps: &Steps, call: Call) -> bool
 
 // Are all cycles within the limit?
 pub fn measured(call: Call) -> bool
-    ensures { Decides result (All (λ l. l.cycles ≤ 1073741823) (about (call_of call.entry)).labels) }
+    ensures { Decides result (AllByRecursion (λ l. l.cycles ≤ 1073741823) (about (call_of call.entry)).labels) }
 {
     match call {
         Call::Node { label, .. } => label.cycles <= MOST_CYCLES,
@@ -115,7 +115,7 @@ pub fn measured(call: Call) -> bool
 
 // Has a table 1 to 512 arcs, each from a state to a state or out?
 pub fn tabular(call: Call) -> bool
-    ensures { Decides result (All (λ arcs. (1 ≤ length arcs) × (length arcs ≤ 512) × All LawfulArc arcs) (about (call_of call.entry)).tables) }
+    ensures { Decides result (AllByRecursion (λ arcs. (1 ≤ length arcs) × (length arcs ≤ 512) × AllByRecursion LawfulArc arcs) (about (call_of call.entry)).tables) }
 {
     match call {
         Call::Table { arcs, .. } => {
@@ -133,7 +133,7 @@ pub fn tabular(call: Call) -> bool
 
 // Does every state of a table, up to the highest named, begin an arc?
 pub fn going(call: Call) -> bool
-    ensures { Decides result (All (λ arcs. (q : ℕ) → UpToNamed arcs q → Begins arcs q) (about (call_of call.entry)).tables) }
+    ensures { Decides result (AllByRecursion (λ arcs. (q : ℕ) → UpToNamed arcs q → Begins arcs q) (about (call_of call.entry)).tables) }
 {
     match call {
         Call::Table { arcs, .. } => complete(arcs),
@@ -148,7 +148,7 @@ pub fn going(call: Call) -> bool
 
 // Do a table's arcs fit with those recorded?
 pub fn roomy(recorded: &Arcs, call: Call) -> bool
-    ensures { Decides result (All (λ arcs. length (arcs_of recorded.now) + length arcs ≤ 512) (about (call_of call.entry)).tables) }
+    ensures { Decides result (AllByRecursion (λ arcs. length (arcs_of recorded.now) + length arcs ≤ 512) (about (call_of call.entry)).tables) }
 {
     match call {
         Call::Table { arcs, .. } => arcs.len() <= 512 - recorded.count,

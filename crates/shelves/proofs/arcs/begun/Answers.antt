@@ -2,7 +2,7 @@ use Rattle.std.proofs.Common.{◌≡◌, get_or, subst}
 use Rattle.std.proofs.ByRecursion.{All-more}
 use Rattle.std.proofs.lemmas.List.{take_all}
 use Rattle.std.proofs.lemmas.Bool.{false≢true}
-use Rattle.std.specs.List.{AllByRecursion as All}
+use Rattle.std.specs.List.{AllByRecursion}
 use Rattle.algebra.specs.declared.arc.Arc.{Arc}
 use Rattle.shelves.proofs.Elements.{passes, among_at, all_among}
 use Rattle.shelves.proofs.arcs.begun.Goals as goal
@@ -15,7 +15,7 @@ pub returns : goal.returns
 returns c = (
   λ e. absurd (false≢true e),
   λ some. absurd (all_among (λ (a : Arc). a.from ≡ c.args.state → ⊥) c.args.arcs.now some.0
-      (subst (All (λ (a : Arc). a.from ≡ c.args.state → ⊥)) (take_all c.loop-arc.arc-index c.args.arcs.now c.loop-arc-test.false) c.loop-arc.invariant) some.1 some.2),
+      (subst (AllByRecursion (λ (a : Arc). a.from ≡ c.args.state → ⊥)) (take_all c.loop-arc.arc-index c.args.arcs.now c.loop-arc-test.false) c.loop-arc.invariant) some.1 some.2),
 )
 
 pub returns-then-arc-state : goal.returns-then-arc-state

@@ -2,7 +2,7 @@ use Rattle.std.proofs.Common.{refl, subst}
 use Rattle.std.proofs.ByRecursion.{All-more}
 use Rattle.std.proofs.lemmas.List.{take_all}
 use Rattle.std.proofs.lemmas.Bool.{false≢true}
-use Rattle.std.specs.List.{AllByRecursion as All}
+use Rattle.std.specs.List.{AllByRecursion}
 use Rattle.shelves.specs.Questions.{LawfulArc}
 use Rattle.shelves.proofs.Elements.{fails, passes}
 use Rattle.shelves.proofs.arcs.lawful.Goals as goal
@@ -13,7 +13,7 @@ loop-arc-preserved c =
 
 pub returns : goal.returns
 returns c =
-    passes (subst (All LawfulArc) (take_all c.loop-arc.arc-index c.args.arcs.now c.loop-arc-test.false) c.loop-arc.invariant)
+    passes (subst (AllByRecursion LawfulArc) (take_all c.loop-arc.arc-index c.args.arcs.now c.loop-arc-test.false) c.loop-arc.invariant)
 
 pub returns-then-not-lawful_arc : goal.returns-then-not-lawful_arc
 returns-then-not-lawful_arc c =

@@ -2,7 +2,7 @@ use Rattle.std.proofs.Common.{◌≤◌, sym, subst}
 use Rattle.std.proofs.ByRecursion.{All-more, All-map}
 use Rattle.std.proofs.lemmas.List.{take_all}
 use Rattle.std.proofs.lemmas.Bool.{leb-true, false≢true}
-use Rattle.std.specs.List.{AllByRecursion as All}
+use Rattle.std.specs.List.{AllByRecursion}
 use Rattle.algebra.specs.declared.arc.Arc.{Arc}
 use Rattle.algebra.specs.declared.label.Label.{Label}
 use Rattle.shelves.proofs.Elements.{fails, passes, unmapped, not_within}
@@ -16,7 +16,7 @@ loop-arc-preserved c =
 pub returns : goal.returns
 returns c =
     passes (All-map (λ (l : Label). l.cycles ≤ 1073741823) (λ (a : Arc). a.label) c.args.arcs.now
-    (subst (All (λ (a : Arc). a.label.cycles ≤ 1073741823)) (take_all c.loop-arc.arc-index c.args.arcs.now c.loop-arc-test.false) c.loop-arc.invariant))
+    (subst (AllByRecursion (λ (a : Arc). a.label.cycles ≤ 1073741823)) (take_all c.loop-arc.arc-index c.args.arcs.now c.loop-arc-test.false) c.loop-arc.invariant))
 
 pub returns-then-not-allowed : goal.returns-then-not-allowed
 returns-then-not-allowed c =
