@@ -1,7 +1,7 @@
 // A rack whose calls name shelves by number.
 ghost use Rattle.std.specs.Prelude.{◌≡◌, ℕ, ◌<◌, ◌≤◌, min, [], map, length, take, drop, None as absent, slice_index_or};
 ghost use Rattle.shelves.specs.declared.call.Pairing.TheVariants as kind;
-ghost use Rattle.shelves.specs.Calls.{node as Node-call, pause as pause_call, table as table_call, pair as pair_call, loop as loop_call, clear as clear_call, report as report_call};
+ghost use Rattle.shelves.specs.Calls.{node as node_call, pause as pause_call, table as table_call, pair as pair_call, loop as loop_call, clear as clear_call, report as report_call};
 ghost use Rattle.shelves.specs.Held.{state_of, call_of};
 ghost use Rattle.shelves.specs.Promise.{Fresh, Made, Kept, Answers, AnswersAll};
 ghost use Rattle.shelves.specs.Told.{reply_of, shown};
@@ -38,7 +38,7 @@ impl<'a, V: Algebra> Rack<'a, V> {
     }
 
     pub fn node(&mut self, shelf: u8, label: Label) -> Result<usize, Refusal>
-        ensures { Answers V.model (Node-call shelf label) (answered V.model result) (state_of V.model V.means self.old.core) (state_of V.model V.means self.new.core) }
+        ensures { Answers V.model (node_call shelf label) (answered V.model result) (state_of V.model V.means self.old.core) (state_of V.model V.means self.new.core) }
     {
         change(&mut self.core, Call::node(shelf, label))
     }

@@ -120,10 +120,10 @@ module _ {X : Type 0} where
         made = made;
       }
 
-      End-of : Family X → Ticks X → End → Type 0
-      End-of C zs g = (c : End) × C c (take j zs) × (((j < length zs) × (c ≡ paused)) ⊎ ((length zs ≤ j) × (c ≡ g)))
+      EndOf : Family X → Ticks X → End → Type 0
+      EndOf C zs g = (c : End) × C c (take j zs) × (((j < length zs) × (c ≡ paused)) ⊎ ((length zs ≤ j) × (c ≡ g)))
 
-      go : End-of A xs f.first_end → End-of B ys f.second_end → Forked A B paused (take j ts)
+      go : EndOf A xs f.first_end → EndOf B ys f.second_end → Forked A B paused (take j ts)
       go x y =
           let lx = length-take j xs in
           let ly = length-take j ys in

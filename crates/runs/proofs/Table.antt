@@ -62,10 +62,10 @@ module _ (m : Model) (laws : Laws m) {X : Type 0} (weigh : X → m.Carrier) wher
       → (e : End) → Row m weigh (tabled arcs e) (table_row m weigh R arcs e)
   table_walks arcs R tells e n = same m laws there back (over_list m laws arcs (λ a. cell (Reached arcs n a.from) e (R n a.from) a.lead (weigh a.label) (tells n a.from)))
     where
-      Arc-weighs : m.Carrier → Type 0
-      Arc-weighs w = (a : Arc X) × Among a arcs × (Reached arcs n a.from × (e ≡ ended a.lead) × (w ≡ weigh a.label))
+      ArcWeighs : m.Carrier → Type 0
+      ArcWeighs w = (a : Arc X) × Among a arcs × (Reached arcs n a.from × (e ≡ ended a.lead) × (w ≡ weigh a.label))
 
-      there : (w : m.Carrier) → Arc-weighs w → Weighs m weigh (tabled arcs e) n w
+      there : (w : m.Carrier) → ArcWeighs w → Weighs m weigh (tabled arcs e) n w
       there w h =
           let a = h.0 in
           let walk = walk_to arcs n a.from h.2.0 in
@@ -78,7 +78,7 @@ module _ (m : Model) (laws : Laws m) {X : Type 0} (weigh : X → m.Carrier) wher
             weighs = ap (weight m weigh) (get_or_at walk.0 (a.label ∷ []) [] [] n walk.1) ∙ laws.add_unit (weigh a.label) ∙ sym h.2.2;
           }
 
-      back : (w : m.Carrier) → Weighs m weigh (tabled arcs e) n w → Arc-weighs w
+      back : (w : m.Carrier) → Weighs m weigh (tabled arcs e) n w → ArcWeighs w
       back w h =
           let k = last_tick arcs e h.run 0 0 n n refl h.of_set.1 h.long (omega arith) in
           (k.0, k.1, (k.2, k.3, sym h.weighs ∙ ap (weight m weigh) k.4 ∙ laws.add_unit (weigh k.0.label)))

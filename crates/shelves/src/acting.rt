@@ -1,5 +1,5 @@
 // Acting on a call whose questions before unrolling all said yes.
-ghost use Rattle.shelves.specs.Calls.{node as Node-call, pause as pause_call, table as table_call, pair as pair_call, loop as loop_call, clear as clear_call, report as report_call, reported};
+ghost use Rattle.shelves.specs.Calls.{node as node_call, pause as pause_call, table as table_call, pair as pair_call, loop as loop_call, clear as clear_call, report as report_call, reported};
 ghost use Rattle.shelves.specs.Effects.{Does};
 ghost use Rattle.shelves.specs.Held.{state_of};
 ghost use Rattle.shelves.specs.Questions.{Yes, AllYes};
@@ -18,8 +18,8 @@ use algebra::arc::Arc;
 use algebra::label::Label;
 
 pub fn act_node<V: Algebra>(core: &mut Core<V>, shelf: u8, label: Label) -> Reply<V>
-    requires { AllYes (Yes V.model (state_of V.model V.means core.old) (Node-call shelf label)) early }
-    ensures { Does V.model (Node-call shelf label) (reply_of V.model V.means result) (state_of V.model V.means core.old) (state_of V.model V.means core.new) }
+    requires { AllYes (Yes V.model (state_of V.model V.means core.old) (node_call shelf label)) early }
+    ensures { Does V.model (node_call shelf label) (reply_of V.model V.means result) (state_of V.model V.means core.old) (state_of V.model V.means core.new) }
 {
     put_node(core, shelf as usize, label);
     Reply::Accepted(0)

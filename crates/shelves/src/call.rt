@@ -1,6 +1,6 @@
 // The calls of a rack, as values.
 ghost use Rattle.std.specs.Prelude.{◌≡◌};
-ghost use Rattle.shelves.specs.Calls.{node as Node-call, pause as pause_call, table as table_call, pair as pair_call, loop as loop_call, clear as clear_call, report as report_call};
+ghost use Rattle.shelves.specs.Calls.{node as node_call, pause as pause_call, table as table_call, pair as pair_call, loop as loop_call, clear as clear_call, report as report_call};
 ghost use Rattle.shelves.specs.Held.{call_of};
 
 use algebra::arc::Arc;
@@ -47,7 +47,7 @@ pub enum Call<'a> {
 
 impl<'a> Call<'a> {
     pub fn node(shelf: u8, label: Label) -> Call<'a>
-        ensures { call_of result ≡ Node-call shelf label }
+        ensures { call_of result ≡ node_call shelf label }
     {
         Call::Node { shelf, label }
     }

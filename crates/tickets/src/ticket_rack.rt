@@ -1,7 +1,7 @@
 // A rack whose calls take tickets. At another rack a ticket is only a number, so every question is asked all the same.
 ghost use Rattle.std.specs.Prelude.{◌≡◌, ℕ, ◌<◌, ◌≤◌, min, [], map, length, take, drop, IfOk, IfErr, None as absent, MatchResult, OnErr, slice_index_or};
 ghost use Rattle.shelves.specs.declared.call.Pairing.TheVariants as kind;
-ghost use Rattle.shelves.specs.Calls.{node as Node-call, pause as pause_call, table as table_call, pair as pair_call, loop as loop_call, clear as clear_call, report as report_call};
+ghost use Rattle.shelves.specs.Calls.{node as node_call, pause as pause_call, table as table_call, pair as pair_call, loop as loop_call, clear as clear_call, report as report_call};
 ghost use Rattle.shelves.specs.Held.{state_of, call_of};
 ghost use Rattle.shelves.specs.Promise.{Fresh, Made, Kept, Answers, AnswersAll};
 ghost use Rattle.shelves.specs.Told.{reply_of, shown};
@@ -39,7 +39,7 @@ impl<'a, V: Algebra> TicketRack<'a, V> {
     }
 
     pub fn node(&mut self, shelf: u8, label: Label) -> Result<Built, Refusal>
-        ensures answers { Answers V.model (Node-call shelf label) (leaf_reply V.model result) (state_of V.model V.means self.old.core) (state_of V.model V.means self.new.core) }
+        ensures answers { Answers V.model (node_call shelf label) (leaf_reply V.model result) (state_of V.model V.means self.old.core) (state_of V.model V.means self.new.core) }
         ensures ticket { IfOk result (λ built. built.ticket.shelf ≡ shelf) }
         ensures names { IfOk result (λ built. Names (state_of V.model V.means self.new.core) built.ticket) }
     {
