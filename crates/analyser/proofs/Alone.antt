@@ -1,5 +1,5 @@
 -- Looking for the one filled shelf, a shelf at a time.
-use Rattle.std.proofs.Common.{◌≡◌, ℕ, ◌+◌, ◌<◌, ◌≤◌, Bool, true, false, ◌≢◌, ◌⊎◌, List, [], ◌∷◌, is_some, Some, None, Option, sym, refl, ◌∙◌, subst, inl, inr, ⊎_elim, arith}
+use Rattle.std.proofs.Common.{◌≡◌, ℕ, ◌+◌, ◌<◌, ◌≤◌, Bool, true, false, ◌≢◌, List, [], ◌∷◌, is_some, Some, None, Option, sym, refl, subst, inl, inr, ⊎_elim, arith}
 use Rattle.std.specs.Option.{option_map}
 use Rattle.std.proofs.lemmas.Bool.{false≢true, cases_eq}
 use Rattle.algebra.specs.Model.{Model}
@@ -10,7 +10,6 @@ use Rattle.shelves.specs.Promise.{Answers}
 use Rattle.shelves.specs.Questions.{Yes, AllYes, FirstNo}
 use Rattle.shelves.specs.Refusals.{order}
 use Rattle.shelves.specs.State.{State, shelf_at}
-use Rattle.analyser.specs.Files.{Only, Sole}
 
 -- where every question says yes there is no first no
 none_first : (yes_to : Refusal → Type 0) (qs : List Refusal) (r : Refusal) → AllYes yes_to qs → FirstNo yes_to qs r → ⊥

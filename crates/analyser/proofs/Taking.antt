@@ -11,7 +11,7 @@ use Rattle.shelves.specs.Questions.{Yes, FirstNo}
 use Rattle.shelves.specs.Refusals.{order}
 use Rattle.shelves.specs.State.{State}
 use Rattle.shelves.specs.declared.refusal.Refusal.{Refusal}
-use Rattle.shelves.specs.Book.{Pages, book}
+use Rattle.shelves.specs.Book.{book}
 use Rattle.analyser.specs.Files.{Takes, StopsAt}
 use Rattle.analyser.specs.Records.{as_call, spelled_on}
 

@@ -1,5 +1,5 @@
 -- The report of the one filled shelf is of the one plan that the entries spell.
-use Rattle.std.proofs.Common.{◌≡◌, ℕ, ◌≤◌, false, List, [], ◌∷◌, is_some, Some, None, Ok, Err, Option, Result, sym, refl, ap, ◌∙◌, subst}
+use Rattle.std.proofs.Common.{◌≡◌, ℕ, false, List, [], is_some, Some, None, Ok, Option, Result, sym, refl, ap, ◌∙◌, subst}
 use Rattle.std.proofs.lemmas.Bool.{false≢true}
 use Rattle.algebra.specs.declared.label.Label.{Label}
 use Rattle.algebra.specs.Model.{Model}
@@ -7,8 +7,8 @@ use Rattle.program.specs.declared.refusal.Refusal.{Refusal as FileRefusal}
 use Rattle.program.specs.Entries.{Entry}
 use Rattle.runs.specs.Plan.{Plan}
 use Rattle.shelves.specs.Book.{book}
-use Rattle.shelves.specs.Calls.{Report, report, reported, Event}
-use Rattle.shelves.specs.Promise.{Fresh, Made, new, Kept, AsBooked}
+use Rattle.shelves.specs.Calls.{Report}
+use Rattle.shelves.specs.Promise.{Fresh, new, AsBooked}
 use Rattle.shelves.specs.State.{State, shelf_at}
 use Rattle.analyser.specs.declared.fault.Fault.{Fault}
 use Rattle.analyser.specs.Files.{Takes, Sole, Works, Tells}

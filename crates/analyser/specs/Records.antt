@@ -1,5 +1,5 @@
 -- The records of a file as calls, and the plans that they spell.
-use Rattle.std.specs.Prelude.{ℕ, List, [], ◌∷◌, None}
+use Rattle.std.specs.Prelude.{List, [], ◌∷◌, None}
 use Rattle.program.specs.Entries as entry
 use Rattle.program.specs.Entries.{Entry}
 use Rattle.shelves.specs.declared.call.Pairing.TheVariants.{Choice, Sequence, Fork, Abort}

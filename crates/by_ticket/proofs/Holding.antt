@@ -1,5 +1,5 @@
 -- What the rack holds after the calls, and what a report says of it.
-use Rattle.std.proofs.Common.{◌≡◌, ℕ, List, ◌∷◌, IfOk, Some, Ok, Err, Result, sym, refl, ap, ◌∙◌, subst, subst₂}
+use Rattle.std.proofs.Common.{◌≡◌, ℕ, List, ◌∷◌, IfOk, Ok, Err, Result, sym, refl, ap, ◌∙◌, subst, subst₂}
 use Rattle.algebra.specs.declared.arc.Arc.{Arc}
 use Rattle.algebra.specs.declared.label.Label.{Label}
 use Rattle.algebra.specs.Model.{Model}

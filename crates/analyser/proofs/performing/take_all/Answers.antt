@@ -1,4 +1,4 @@
-use Rattle.std.proofs.Common.{map, length, take, sym, ap, subst, arith}
+use Rattle.std.proofs.Common.{map, sym, subst, arith}
 use Rattle.std.proofs.lemmas.List.{length-map, take_all}
 use Rattle.program.specs.Entries.{entry}
 use Rattle.shelves.specs.Held.{state_of}

@@ -1,5 +1,5 @@
 use Rattle.std.proofs.Common.{◌≡◌, IfOk, string_bytes, ◌∙◌, subst}
-use Rattle.lines.specs.Words.{reported_words, figure_words, tick_words}
+use Rattle.lines.specs.Words.{reported_words}
 use Rattle.lines.proofs.line.report_line.Goals as goal
 
 pub returns : goal.returns

@@ -1,29 +1,17 @@
 use Rattle.std.proofs.Common.{[], ◌∷◌, refl}
-use Rattle.algebra.specs.Model.{Laws}
 use Rattle.shelves.specs.declared.refusal.Refusal.TheVariants.{NeverRepeats, TooLong}
 use Rattle.shelves.specs.Held.{state_of, call_of}
 use Rattle.shelves.specs.Questions.{Yes, FirstNo}
 use Rattle.shelves.specs.Refusals.{early, order}
+use Rattle.shelves.proofs.AlgebraLaws.{laws_of}
 use Rattle.shelves.proofs.Asking.{no_before}
 use Rattle.shelves.proofs.Histories.{promise}
-use Rattle.shelves.proofs.answering.answer.Given as given
 use Rattle.shelves.proofs.answering.answer.Goals as goal
-
-laws_of : (g : given.Over) → Laws g.V.Algebra.model
-laws_of g = record {
-  join_assoc = g.met.V.Algebra.join_assoc;
-  join_comm = g.met.V.Algebra.join_comm;
-  join_self = g.met.V.Algebra.join_self;
-  add_assoc = g.met.V.Algebra.add_assoc;
-  add_comm = g.met.V.Algebra.add_comm;
-  add_unit = g.met.V.Algebra.add_unit;
-  add_join = g.met.V.Algebra.add_join;
-}
 
 pub returns-in-Some : goal.returns-in-Some
 returns-in-Some g c =
     let m = g.V.Algebra.model in
-    let laws = laws_of g in
+    let laws = laws_of g.world g.met.V.Algebra in
     let s = state_of m g.V.Algebra.means c.args.core.now in
     let first : FirstNo (Yes m s (call_of c.args.call)) order c.in-Some.found = no_before (Yes m s (call_of c.args.call)) early (NeverRepeats ∷ TooLong ∷ []) c.in-Some.found c.in-Some.ensures in
     record { does = (first, refl); promise = λ h made. promise m laws g.met.V.Algebra.chosen h s s _ made (first, refl) }
@@ -31,5 +19,5 @@ returns-in-Some g c =
 pub returns-in-None : goal.returns-in-None
 returns-in-None g c =
     let m = g.V.Algebra.model in
-    let laws = laws_of g in
+    let laws = laws_of g.world g.met.V.Algebra in
     record { does = c.act.ensures; promise = λ h made. promise m laws g.met.V.Algebra.chosen h _ _ _ made c.act.ensures }

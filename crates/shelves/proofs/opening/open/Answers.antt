@@ -1,5 +1,5 @@
-use Rattle.algebra.specs.Model.{Laws}
 use Rattle.shelves.specs.Promise.{Fresh}
+use Rattle.shelves.proofs.AlgebraLaws.{laws_of}
 use Rattle.shelves.proofs.Histories.{opening}
 use Rattle.shelves.proofs.Unchanged.{blank_mean}
 use Rattle.shelves.proofs.opening.open.Goals as goal
@@ -7,15 +7,6 @@ use Rattle.shelves.proofs.opening.open.Goals as goal
 pub returns : goal.returns
 returns g c =
     let m = g.V.Algebra.model in
-    let laws : Laws m = record {
-      join_assoc = g.met.V.Algebra.join_assoc;
-      join_comm = g.met.V.Algebra.join_comm;
-      join_self = g.met.V.Algebra.join_self;
-      add_assoc = g.met.V.Algebra.add_assoc;
-      add_comm = g.met.V.Algebra.add_comm;
-      add_unit = g.met.V.Algebra.add_unit;
-      add_join = g.met.V.Algebra.add_join;
-    } in
     let fresh : Fresh m _ = record {
       cells = blank_mean g.V.Algebra.means c.wipe.new.cells c.wipe.ensures.blank;
       shelves = c.new.ensures;
@@ -26,5 +17,5 @@ returns g c =
       blank = c.wipe.ensures.blank;
       past = c.wipe.ensures.past;
       fresh = fresh;
-      promise = opening m laws g.met.V.Algebra.chosen _ fresh;
+      promise = opening m (laws_of g.world g.met.V.Algebra) g.met.V.Algebra.chosen _ fresh;
     }
