@@ -1,4 +1,1 @@
-pub mod Semilattice
-pub mod Held
-pub mod Bits
 pub mod Coefficients

@@ -1,8 +1,5 @@
 // An arc of a state table: it leads from a state to a state, or out, and has a label.
 use crate::label::Label;
-use crate::label::LabelDebug;
-use crate::label::LabelEq;
-use crate::label::LabelPartialEq;
 
 // Where an arc that leads out leads.
 pub const OUT: u8 = 255;

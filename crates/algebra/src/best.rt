@@ -1,8 +1,9 @@
 // The best: the smaller of two, the sum held at the top.
-ghost use Prim.Native.Nat.{_≤_};
-ghost use Rattle·algebra·specs.Models.{best};
-use crate::algebra::Algebra;
-use crate::algebra::Choosing;
+ghost use Rattle.std.specs.Prelude.{◌≤◌};
+ghost use Rattle.algebra.specs.Models.{best};
+ghost use Rattle.algebra.specs.HeldLemmas.{smaller_assoc, smaller_comm, smaller_self, sum_assoc, sum_comm, sum_zero, sum_smaller, smaller_chooses};
+
+use crate::algebra::{Algebra, Choosing};
 use crate::label::Label;
 
 #[derive(Clone, Copy)]
@@ -11,10 +12,26 @@ pub struct Best {
     ghost within: { cycles ≤ 4294967295 },
 }
 
-pub impl Algebra for Best as BestAlgebra {
+impl Algebra for Best {
     ghost model = { best };
 
-    ghost means = { λ w. record { amount = w .cycles; within = w .within } };
+    ghost means = { λ w. record { amount = w.cycles; within = w.within } };
+
+    ghost join_assoc = { smaller_assoc };
+
+    ghost join_comm = { smaller_comm };
+
+    ghost join_self = { smaller_self };
+
+    ghost add_assoc = { sum_assoc };
+
+    ghost add_comm = { sum_comm };
+
+    ghost add_unit = { sum_zero };
+
+    ghost add_join = { sum_smaller };
+
+    ghost chosen = { λ says. smaller_chooses };
 
     fn unit() -> Best {
         Best { cycles: 0 }
@@ -47,7 +64,7 @@ pub impl Algebra for Best as BestAlgebra {
     }
 }
 
-pub impl Choosing for Best as BestChoosing {
+impl Choosing for Best {
     fn chooses_always() -> bool {
         true
     }

@@ -1,14 +1,14 @@
 // Coefficients: a value of an algebra, or absent.
-ghost use mathlib.Core.Path.{_≡_};
-ghost use Rattle·std.specs.Options.{mapped};
-ghost use Rattle·std.specs.Orderings.{Decides};
-ghost use Rattle·algebra·specs.Coefficients.{join as joined, add as added, mark as marked, CoefLaws};
-ghost use Rattle·algebra·specs.Model.{Laws};
+ghost use Rattle.std.specs.Prelude.{◌≡◌, Decides};
+ghost use Rattle.std.specs.Option.{option_map};
+ghost use Rattle.algebra.specs.Coefficients.{join as joined, add as added, mark as marked, CoefLaws};
+ghost use Rattle.algebra.specs.Model.{Laws};
+
 use crate::algebra::Algebra;
 
 // Absent joined with anything is that thing.
 pub fn join<V: Algebra>(a: Option<V>, b: Option<V>) -> Option<V>
-    ensures { λ r. ⌜ mapped means r ≡ joined model (mapped means a) (mapped means b) ⌝ }
+    ensures { option_map V.means result ≡ joined V.model (option_map V.means a) (option_map V.means b) }
 {
     match (a, b) {
         (None, _) => b,
@@ -19,7 +19,7 @@ pub fn join<V: Algebra>(a: Option<V>, b: Option<V>) -> Option<V>
 
 // Absent added to anything is absent.
 pub fn add<V: Algebra>(a: Option<V>, b: Option<V>) -> Option<V>
-    ensures { λ r. ⌜ mapped means r ≡ added model (mapped means a) (mapped means b) ⌝ }
+    ensures { option_map V.means result ≡ added V.model (option_map V.means a) (option_map V.means b) }
 {
     match (a, b) {
         (None, _) => None,
@@ -30,14 +30,14 @@ pub fn add<V: Algebra>(a: Option<V>, b: Option<V>) -> Option<V>
 
 // The unit where the mark is set, else absent.
 pub fn mark<V: Algebra>(set: bool) -> Option<V>
-    ensures { λ r. ⌜ mapped means r ≡ marked model set ⌝ }
+    ensures { option_map V.means result ≡ marked V.model set }
 {
     if set { Some(V::unit()) } else { None }
 }
 
 // Do the two mean the same?
 pub fn equal<V: Algebra>(a: Option<V>, b: Option<V>) -> bool
-    ensures { λ r. ⌜ Decides r (mapped means a ≡ mapped means b) ⌝ }
+    ensures { Decides result (option_map V.means a ≡ option_map V.means b) }
 {
     match (a, b) {
         (None, None) => true,
@@ -49,6 +49,6 @@ pub fn equal<V: Algebra>(a: Option<V>, b: Option<V>) -> bool
 
 // Coefficients keep the laws of their algebra, and absent is what a join leaves alone.
 pub fn laws_stand<V: Algebra>() -> ()
-    ensures algebra { λ _. ⌜ Laws model ⌝ }
-    ensures coefficients { λ _. ⌜ CoefLaws model ⌝ }
+    ensures algebra { Laws V.model }
+    ensures coefficients { CoefLaws V.model }
 {}

@@ -1,6 +1,5 @@
 // A label: what one piece of code takes of a tick.
-ghost use lib.Dec.{leb};
-ghost use mathlib.Core.Path.{_≡_};
+ghost use Rattle.std.specs.Prelude.{◌≡◌, nat_le};
 
 // The most cycles that a label may have.
 pub const MOST_CYCLES: u32 = 1_073_741_823;
@@ -15,7 +14,7 @@ pub struct Label {
 impl Label {
     // Are the cycles within the limit?
     pub fn allowed(&self) -> bool
-        ensures { λ r. ⌜ r ≡ leb (now (self .entry) .cycles) 1073741823 ⌝ }
+        ensures { result ≡ nat_le self.now.cycles 1073741823 }
     {
         self.cycles <= MOST_CYCLES
     }

@@ -1,4 +1,6 @@
 // Labels, the algebras that weigh them, and coefficients: what every row of tick costs is made of.
+#![tactic(auto)]
+
 pub mod algebra;
 pub mod arc;
 pub mod best;

@@ -1,5 +1,7 @@
 // Any two algebras side by side, half by half.
-ghost use Rattle·algebra·specs.Models.{pair as pair-of};
+ghost use Rattle.algebra.specs.Models.{pair as pair_of};
+ghost use Rattle.std.proofs.Common.{rules};
+
 use crate::algebra::Algebra;
 use crate::label::Label;
 
@@ -9,10 +11,26 @@ pub struct Pair<A, B> {
     pub second: B,
 }
 
-pub impl<A: Algebra, B: Algebra> Algebra for Pair<A, B> as PairAlgebra {
-    ghost model = { pair-of (A·Algebra .model) (B·Algebra .model) };
+impl<A: Algebra, B: Algebra> Algebra for Pair<A, B> {
+    ghost model = { pair_of A.Algebra.model B.Algebra.model };
 
-    ghost means = { λ p. (A·Algebra .means (p .first), B·Algebra .means (p .second)) };
+    ghost means = { λ p. (A.Algebra.means p.first, B.Algebra.means p.second) };
+
+    ghost join_assoc = { Prim.search rules };
+
+    ghost join_comm = { Prim.search rules };
+
+    ghost join_self = { Prim.search rules };
+
+    ghost add_assoc = { Prim.search rules };
+
+    ghost add_comm = { Prim.search rules };
+
+    ghost add_unit = { Prim.search rules };
+
+    ghost add_join = { Prim.search rules };
+
+    ghost chosen = { Prim.search rules };
 
     fn unit() -> Pair<A, B> {
         Pair {

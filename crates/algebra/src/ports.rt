@@ -1,5 +1,10 @@
 // The ports used: both the join and the sum are the union.
-ghost use Rattle·algebra·specs.Models.{ports as model-of-ports};
+ghost use Rattle.algebra.specs.Models.{ports as model_of_ports};
+ghost use Rattle.algebra.specs.Bits.{or_assoc, or_or};
+ghost use Rattle.std.proofs.lemmas.Nat.{or_comm};
+ghost use Rattle.std.specs.Int.Bits.{or_self, or_zero_r};
+ghost use Rattle.std.proofs.lemmas.Bool.{false≢true};
+
 use crate::algebra::Algebra;
 use crate::label::Label;
 
@@ -9,10 +14,26 @@ pub struct Ports {
     pub bits: u32,
 }
 
-pub impl Algebra for Ports as PortsAlgebra {
-    ghost model = { model-of-ports };
+impl Algebra for Ports {
+    ghost model = { model_of_ports };
 
-    ghost means = { λ p. p .bits };
+    ghost means = { λ p. p.bits };
+
+    ghost join_assoc = { or_assoc };
+
+    ghost join_comm = { or_comm };
+
+    ghost join_self = { or_self };
+
+    ghost add_assoc = { or_assoc };
+
+    ghost add_comm = { or_comm };
+
+    ghost add_unit = { or_zero_r };
+
+    ghost add_join = { or_or };
+
+    ghost chosen = { λ says. absurd (false≢true says) };
 
     fn unit() -> Ports {
         Ports { bits: 0 }

@@ -1,8 +1,9 @@
 // The worst: the larger of two, the sum held at the top.
-ghost use Prim.Native.Nat.{_≤_};
-ghost use Rattle·algebra·specs.Models.{worst};
-use crate::algebra::Algebra;
-use crate::algebra::Choosing;
+ghost use Rattle.std.specs.Prelude.{◌≤◌};
+ghost use Rattle.algebra.specs.Models.{worst};
+ghost use Rattle.algebra.specs.HeldLemmas.{larger_assoc, larger_comm, larger_self, sum_assoc, sum_comm, sum_zero, sum_larger, larger_chooses};
+
+use crate::algebra::{Algebra, Choosing};
 use crate::label::Label;
 
 #[derive(Clone, Copy)]
@@ -11,10 +12,26 @@ pub struct Worst {
     ghost within: { cycles ≤ 4294967295 },
 }
 
-pub impl Algebra for Worst as WorstAlgebra {
+impl Algebra for Worst {
     ghost model = { worst };
 
-    ghost means = { λ w. record { amount = w .cycles; within = w .within } };
+    ghost means = { λ w. record { amount = w.cycles; within = w.within } };
+
+    ghost join_assoc = { larger_assoc };
+
+    ghost join_comm = { larger_comm };
+
+    ghost join_self = { larger_self };
+
+    ghost add_assoc = { sum_assoc };
+
+    ghost add_comm = { sum_comm };
+
+    ghost add_unit = { sum_zero };
+
+    ghost add_join = { sum_larger };
+
+    ghost chosen = { λ says. larger_chooses };
 
     fn unit() -> Worst {
         Worst { cycles: 0 }
@@ -47,7 +64,7 @@ pub impl Algebra for Worst as WorstAlgebra {
     }
 }
 
-pub impl Choosing for Worst as WorstChoosing {
+impl Choosing for Worst {
     fn chooses_always() -> bool {
         true
     }

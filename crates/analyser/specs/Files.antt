@@ -1,62 +1,52 @@
 -- What a program file comes to on a new rack: a report of the one plan that it spells, or the first no.
-use mathlib.Core.Bool.{true, false}
-use mathlib.Core.List.{List, [], _∷_, _++_}
-use mathlib.Core.Logic.{_⊎_, _≢_}
-use mathlib.Core.Path.{_≡_}
-use Prim.Native.Nat.{ℕ, _≤_, _<_}
-use lib.ListN.{length}
-use Rattle·std.specs.declared.option.Option.{Option}
-use Rattle·std.specs.declared.option.Option.the-variants.{None, Some}
-use Rattle·std.specs.declared.result.Result.{Result}
-use Rattle·std.specs.declared.result.Result.the-variants.{Ok, Err}
-use Rattle·std.specs.Options.{isSome}
-use Rattle·algebra.specs.declared.label.Label.{Label}
-use Rattle·algebra.specs.Model.{Model}
-use Rattle·program.specs.declared.refusal.Refusal.{Refusal as FileRefusal}
-use Rattle·program.specs.Entries.{Entry}
-use Rattle·program.specs.Files.{Holds}
-use Rattle·runs.specs.Plan.{Plan}
-use Rattle·shelves.specs.declared.refusal.Refusal.{Refusal}
-use Rattle·shelves.specs.declared.refusal.Refusal.the-variants.{FewCells}
-use Rattle·shelves.specs.declared.report.Report.{Report as Held}
-use Rattle·shelves.specs.Calls.{Report, report, accepted, reported}
-use Rattle·shelves.specs.Effects.{Does}
-use Rattle·shelves.specs.Promise.{Fresh, Figured, Answers}
-use Rattle·shelves.specs.Questions.{Yes, FirstNo}
-use Rattle·shelves.specs.Refusals.{order}
-use Rattle·shelves.specs.State.{State, shelf-at}
-use Rattle·shelves.specs.Told.{report-of}
-use Rattle·analyser·specs.declared.fault.Fault.{Fault}
-use Rattle·analyser·specs.declared.fault.Why.{Why}
-use Rattle·analyser·specs.declared.fault.Why.the-variants.{Rack, File, NotOne}
-use Rattle·analyser·specs.Records.{as-call, spelled}
+use Rattle.std.specs.Prelude.{◌≡◌, ℕ, ◌<◌, ◌≤◌, true, false, ◌≢◌, ◌⊎◌, List, [], ◌∷◌, ◌++◌, length, is_some, Some, None, Ok, Err, Option, Result}
+use Rattle.algebra.specs.declared.label.Label.{Label}
+use Rattle.algebra.specs.Model.{Model}
+use Rattle.program.specs.declared.refusal.Refusal.{Refusal as FileRefusal}
+use Rattle.program.specs.Entries.{Entry}
+use Rattle.program.specs.Files.{Holds}
+use Rattle.runs.specs.Plan.{Plan}
+use Rattle.shelves.specs.declared.refusal.Refusal.{Refusal}
+use Rattle.shelves.specs.declared.refusal.Refusal.TheVariants.{FewCells}
+use Rattle.shelves.specs.declared.report.Report.{Report as Held}
+use Rattle.shelves.specs.Calls.{Report, report, accepted, reported}
+use Rattle.shelves.specs.Effects.{Does}
+use Rattle.shelves.specs.Promise.{Fresh, Figured, Answers}
+use Rattle.shelves.specs.Questions.{Yes, FirstNo}
+use Rattle.shelves.specs.Refusals.{order}
+use Rattle.shelves.specs.State.{State, shelf_at}
+use Rattle.shelves.specs.Told.{report_of}
+use Rattle.analyser.specs.declared.fault.Fault.{Fault}
+use Rattle.analyser.specs.declared.fault.Why.{Why}
+use Rattle.analyser.specs.declared.fault.Why.TheVariants.{Rack, File, NotOne}
+use Rattle.analyser.specs.Records.{as_call, spelled}
 
 module _ (m : Model) where
-  -- the entries are accepted one after the other, and take the rack from s to s′
+  -- the entries are accepted one after the other, and take the rack from s to s'
   abbrev pub Takes : List Entry → State m → State m → Type 0
-  Takes [] s s′ = s′ ≡ s
-  Takes (e ∷ es) s s′ = (number : ℕ) × (between : State m) × Does m (as-call e) (accepted number) s between × Takes es between s′
+  Takes [] s s' = s' ≡ s
+  Takes (e ∷ es) s s' = (number : ℕ) × (between : State m) × Does m (as_call e) (accepted number) s between × Takes es between s'
 
   -- the entries before e are accepted, and the first question that is answered no of e's call is q's
-  pub record StopsAt (es : List Entry) (s s′ : State m) (count : ℕ) (q : Refusal) : Type 0 where
+  pub record StopsAt (es : List Entry) (s s' : State m) (count : ℕ) (q : Refusal) : Type 0 where
     pub before : List Entry
     pub refused : Entry
     pub later : List Entry
     pub are : es ≡ before ++ refused ∷ later
     pub counted : count ≡ length before
-    pub takes : Takes before s s′
-    pub first-no : FirstNo (Yes m s′ (as-call refused)) order q
+    pub takes : Takes before s s'
+    pub first_no : FirstNo (Yes m s' (as_call refused)) order q
 
   -- how many entries are accepted, and which question is the first no
   abbrev pub Took : List Entry → State m → State m → ℕ → Option Refusal → Type 0
-  Took es s s′ count None = (count ≡ length es) × Takes es s s′
-  Took es s s′ count (Some q) = StopsAt es s s′ count q
+  Took es s s' count None = (count ≡ length es) × Takes es s s'
+  Took es s s' count (Some q) = StopsAt es s s' count q
 
   -- shelf k alone is filled
   pub record Only (s : State m) (k : ℕ) : Type 0 where
     pub low : k ≤ 15
-    pub filled : isSome (shelf-at s k .step) ≡ true
-    pub others : (j : ℕ) → j ≤ 15 → j ≢ k → isSome (shelf-at s j .step) ≡ false
+    pub filled : is_some (shelf_at s k).step ≡ true
+    pub others : (j : ℕ) → j ≤ 15 → j ≢ k → is_some (shelf_at s j).step ≡ false
 
   -- the report of the one filled shelf, with its promise
   pub record Sole (s : State m) (r : Report m) : Type 0 where
@@ -66,14 +56,14 @@ module _ (m : Model) where
 
   -- why a file stops: its call is refused by the rack, the file is refused after its last entry, or not one shelf is filled
   abbrev pub Stops : List Entry → Option FileRefusal → State m → State m → ℕ → Why → Type 0
-  Stops es ending s s′ count (Rack q) = StopsAt es s s′ count q
-  Stops es ending s s′ count (File q) = (count ≡ length es) × (ending ≡ Some q) × Takes es s s′
-  Stops es ending s s′ count NotOne = (count ≡ length es) × (ending ≡ None) × Takes es s s′ × ((k : ℕ) → Only s′ k → ⊥)
+  Stops es ending s s' count (Rack q) = StopsAt es s s' count q
+  Stops es ending s s' count (File q) = (count ≡ length es) × (ending ≡ Some q) × Takes es s s'
+  Stops es ending s s' count NotOne = (count ≡ length es) × (ending ≡ None) × Takes es s s' × ((k : ℕ) → Only s' k → ⊥)
 
   -- what the entries of a file with this ending do on a rack
   abbrev pub Works : List Entry → Option FileRefusal → State m → State m → Result (Report m) Fault → Type 0
-  Works es ending s s′ (Ok r) = (ending ≡ None) × Takes es s s′ × Sole s′ r
-  Works es ending s s′ (Err fault) = Stops es ending s s′ (fault .accepted) (fault .why)
+  Works es ending s s' (Ok r) = (ending ≡ None) × Takes es s s' × Sole s' r
+  Works es ending s s' (Err fault) = Stops es ending s s' fault.accepted fault.why
 
   -- the report is of the one plan that the entries spell by the book
   pub record Tells (es : List Entry) (r : Report m) : Type 0 where
@@ -100,6 +90,6 @@ module _ (m : Model) where
   Analysed lent bytes found = (4096 ≤ lent → Runs bytes found) × (lent < 4096 → found ≡ Err (record { accepted = 0; why = Rack FewCells }))
 
   -- a report or a fault, by its meaning
-  abbrev pub found-of : {V : Type 0} → (V → m .Carrier) → Result (Held V) Fault → Result (Report m) Fault
-  found-of means (Ok r) = Ok (report-of m means r)
-  found-of means (Err fault) = Err fault
+  abbrev pub found_of : {V : Type 0} → (V → m.Carrier) → Result (Held V) Fault → Result (Report m) Fault
+  found_of means (Ok r) = Ok (report_of m means r)
+  found_of means (Err fault) = Err fault

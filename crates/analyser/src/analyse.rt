@@ -1,9 +1,8 @@
 // A whole program file, analysed on a new rack.
-ghost use lib.ListN.{length};
-ghost use Rattle·std.specs.Vec.{made};
-ghost use Rattle·analyser·specs.Files.{Analysed, found-of};
-use crate::fault::Fault;
-use crate::fault::Why;
+ghost use Rattle.std.specs.Prelude.{length, IfOk};
+ghost use Rattle.analyser.specs.Files.{Analysed, found_of};
+
+use crate::fault::{Fault, Why};
 use crate::working::work;
 use algebra::algebra::Algebra;
 use program::file::list;
@@ -11,8 +10,7 @@ use rack::rack::Rack;
 use shelves::opening::enough;
 use shelves::refusal::Refusal;
 use shelves::report::Report;
-use std::alloc::AllocError;
-use std::alloc::Global;
+use std::alloc::{AllocError, Global};
 
 // The report of the one plan that the file spells, or the first no with how many records were accepted before it.
 pub fn analyse<V: Algebra>(
@@ -20,7 +18,7 @@ pub fn analyse<V: Algebra>(
     bytes: &[u8],
     cells: &mut [Option<V>],
 ) -> Result<Result<Report<V>, Fault>, AllocError>
-    ensures { λ r. ⌜ made r (λ found. Analysed model (length (now (cells .entry))) (now (bytes .entry)) (found-of model means found)) ⌝ }
+    ensures { IfOk result (λ found. Analysed V.model (length cells.old) bytes.now (found_of V.model V.means found)) }
 {
     if !enough(cells) {
         return Ok(Err(Fault {

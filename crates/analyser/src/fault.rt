@@ -1,6 +1,7 @@
 // Why a file is refused, and how many of its records were accepted before.
-ghost use mathlib.Core.Path.{_≡_};
-ghost use Rattle·analyser·specs.Faults.{number-of};
+ghost use Rattle.std.specs.Prelude.{◌≡◌};
+ghost use Rattle.analyser.specs.Faults.{number_of};
+
 use program::refusal::Refusal as FileRefusal;
 use shelves::refusal::Refusal;
 
@@ -23,7 +24,7 @@ pub struct Fault {
 impl Why {
     // The number of the question that is answered no.
     pub fn number(self) -> u8
-        ensures { λ r. ⌜ r ≡ number-of self ⌝ }
+        ensures { result ≡ number_of self }
     {
         match self {
             Why::Rack(found) => found.number(),

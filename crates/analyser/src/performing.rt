@@ -1,18 +1,19 @@
 // Records performed on a rack, each as its call.
-ghost use mathlib.Core.List.{map};
-ghost use Rattle·program.specs.Entries.{entry};
-ghost use Rattle·shelves.specs.Changing.{answered};
-ghost use Rattle·shelves.specs.Held.{state-of};
-ghost use Rattle·shelves.specs.Promise.{Answers};
-ghost use Rattle·analyser·specs.Files.{Took};
-ghost use Rattle·analyser·specs.Records.{as-call};
+ghost use Rattle.std.specs.Prelude.{map};
+ghost use Rattle.program.specs.Entries.{entry};
+ghost use Rattle.shelves.specs.Changing.{answered};
+ghost use Rattle.shelves.specs.Held.{state_of};
+ghost use Rattle.shelves.specs.Promise.{Answers};
+ghost use Rattle.analyser.specs.Files.{Took};
+ghost use Rattle.analyser.specs.Records.{as_call};
+
 use algebra::algebra::Algebra;
 use program::record::Record;
 use rack::rack::Rack;
 use shelves::refusal::Refusal;
 
 fn perform<V: Algebra>(rack: &mut Rack<V>, of: &Record) -> Result<usize, Refusal>
-    ensures { λ r. ⌜ Answers model (as-call (entry (now (of .entry)))) (answered model r) (state-of model means (now (rack .entry) .core)) (state-of model means (now (rack .exit) .core)) ⌝ }
+    ensures { Answers V.model (as_call (entry of.now)) (answered V.model result) (state_of V.model V.means rack.old.core) (state_of V.model V.means rack.new.core) }
 {
     match of {
         Record::Node { shelf, label } => rack.node(*shelf, *label),
@@ -36,7 +37,7 @@ pub struct Taken {
 
 // Performs records up to the first that is refused.
 pub(crate) fn take_all<V: Algebra>(rack: &mut Rack<V>, records: &[Record]) -> Taken
-    ensures { λ r. ⌜ Took model (map entry (now (records .entry))) (state-of model means (now (rack .entry) .core)) (state-of model means (now (rack .exit) .core)) (r .accepted) (r .refusal) ⌝ }
+    ensures { Took V.model (map entry records.now) (state_of V.model V.means rack.old.core) (state_of V.model V.means rack.new.core) result.accepted result.refusal }
 {
     for i in 0..records.len() {
         match perform(rack, &records[i]) {

@@ -1,16 +1,16 @@
 // The one filled shelf of a rack.
-ghost use Prim.Native.Nat.{ℕ};
-ghost use Rattle·std.specs.Options.{Cases};
-ghost use Rattle·shelves.specs.Held.{state-of};
-ghost use Rattle·shelves.specs.Told.{report-of};
-ghost use Rattle·analyser·specs.Files.{Only, Sole};
+ghost use Rattle.std.specs.Prelude.{ℕ, MatchOption};
+ghost use Rattle.shelves.specs.Held.{state_of};
+ghost use Rattle.shelves.specs.Told.{report_of};
+ghost use Rattle.analyser.specs.Files.{Only, Sole};
+
 use algebra::algebra::Algebra;
 use rack::rack::Rack;
 use shelves::report::Report;
 
 // The report of the one filled shelf, or None where not exactly one is filled.
 pub(crate) fn sole<V: Algebra>(rack: &Rack<V>) -> Option<Report<V>>
-    ensures { λ r. ⌜ Cases r ((k : ℕ) → Only model (state-of model means (now (rack .entry) .core)) k → ⊥) (λ told. Sole model (state-of model means (now (rack .entry) .core)) (report-of model means told)) ⌝ }
+    ensures { MatchOption result ((k : ℕ) → Only V.model (state_of V.model V.means rack.now.core) k → ⊥) (λ told. Sole V.model (state_of V.model V.means rack.now.core) (report_of V.model V.means told)) }
 {
     let mut found = None;
     for k in 0..16 {

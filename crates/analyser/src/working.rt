@@ -1,11 +1,10 @@
 // A listed file run on a rack.
-ghost use mathlib.Core.List.{map};
-ghost use Rattle·std.specs.Of.Vec.{vec-items};
-ghost use Rattle·program.specs.Entries.{entry};
-ghost use Rattle·shelves.specs.Held.{state-of};
-ghost use Rattle·analyser·specs.Files.{Works, found-of};
-use crate::fault::Fault;
-use crate::fault::Why;
+ghost use Rattle.std.specs.Prelude.{map};
+ghost use Rattle.program.specs.Entries.{entry};
+ghost use Rattle.shelves.specs.Held.{state_of};
+ghost use Rattle.analyser.specs.Files.{Works, found_of};
+
+use crate::fault::{Fault, Why};
 use crate::performing::take_all;
 use crate::sole::sole;
 use algebra::algebra::Algebra;
@@ -15,7 +14,7 @@ use shelves::report::Report;
 
 // Runs every record as its call and reports the one filled shelf. A file that is refused leaves what its accepted records made.
 pub fn work<V: Algebra>(rack: &mut Rack<V>, listing: &Listing) -> Result<Report<V>, Fault>
-    ensures { λ r. ⌜ Works model (map entry (vec-items (now (listing .entry) .records))) (now (listing .entry) .refusal) (state-of model means (now (rack .entry) .core)) (state-of model means (now (rack .exit) .core)) (found-of model means r) ⌝ }
+    ensures { Works V.model (map entry listing.now.records.items) listing.now.refusal (state_of V.model V.means rack.old.core) (state_of V.model V.means rack.new.core) (found_of V.model V.means result) }
 {
     let taken = take_all(rack, listing.records.as_slice());
     let accepted = taken.accepted;

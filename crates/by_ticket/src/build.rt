@@ -1,27 +1,22 @@
 // Two threads built by ticket, side by side. Whatever is refused, every ticket is spent.
-ghost use mathlib.Core.List.{List};
-ghost use mathlib.Core.Logic.{_≢_};
-ghost use mathlib.Core.Path.{_≡_};
-ghost use Prim.Native.Nat.{ℕ};
-ghost use Rattle·std.specs.Results.{Cases};
-ghost use Rattle·shelves.specs.declared.call.Pairing.the-variants as kind;
-ghost use Rattle·shelves.specs.Calls.{pair, accepted, Event};
-ghost use Rattle·shelves.specs.Held.{state-of};
-ghost use Rattle·shelves.specs.Promise.{Made, Answers};
-ghost use Rattle·tickets.specs.Tickets.{Names};
-ghost use Rattle·by_ticket·specs.Threads.{side-by-side, HoldsPlan};
+ghost use Rattle.std.specs.Prelude.{◌≡◌, ℕ, ◌≢◌, List, IfOk, OnOk};
+ghost use Rattle.shelves.specs.declared.call.Pairing.TheVariants as kind;
+ghost use Rattle.shelves.specs.Calls.{pair, accepted, Event};
+ghost use Rattle.shelves.specs.Held.{state_of};
+ghost use Rattle.shelves.specs.Promise.{Made, Answers};
+ghost use Rattle.tickets.specs.Tickets.{Names};
+ghost use Rattle.by_ticket.specs.Threads.{side_by_side, HoldsPlan};
+
 use algebra::algebra::Algebra;
 use algebra::arc::Arc;
 use shelves::refusal::Refusal;
-use tickets::ticket::BothBack;
-use tickets::ticket::Built;
-use tickets::ticket::Ticket;
+use tickets::ticket::{BothBack, Built, Ticket};
 use tickets::ticket_rack::TicketRack;
 
 // Clears a ticket that names a filled shelf, which is never refused.
 pub fn end<V: Algebra>(rack: &mut TicketRack<V>, ticket: Ticket)
-    requires { ⌜ Names (state-of model means (now rack .core)) ticket ⌝ }
-    ensures { λ _. ⌜ ((other : Ticket) → other .shelf ≢ ticket .shelf → Names (state-of model means (now (rack .entry) .core)) other → Names (state-of model means (now (rack .exit) .core)) other) ⌝ }
+    requires { Names (state_of V.model V.means rack.old.core) ticket }
+    ensures { (other : Ticket) → other.shelf ≢ ticket.shelf → Names (state_of V.model V.means rack.old.core) other → Names (state_of V.model V.means rack.new.core) other }
 {
     match rack.clear(ticket) {
         Ok(_) => {}
@@ -35,10 +30,10 @@ fn fork<V: Algebra>(
     first: Ticket,
     second: Ticket,
 ) -> Result<Ticket, Refusal>
-    requires { ⌜ second .shelf ≢ first .shelf ⌝ ∗ ⌜ Names (state-of model means (now rack .core)) first ⌝ ∗ ⌜ Names (state-of model means (now rack .core)) second ⌝ }
-    ensures names { λ r. ⌜ Cases r (λ ticket. Names (state-of model means (now (rack .exit) .core)) ticket) (λ _. Unit {0}) ⌝ }
-    ensures ticket { λ r. ⌜ Cases r (λ ticket. ticket ≡ first) (λ _. Unit {0}) ⌝ }
-    ensures answers { λ r. ⌜ Cases r (λ _. (n : ℕ) × Answers model (pair kind.Fork (first .shelf) (second .shelf)) (accepted n) (state-of model means (now (rack .entry) .core)) (state-of model means (now (rack .exit) .core))) (λ _. Unit {0}) ⌝ }
+    requires { (second.shelf ≢ first.shelf) × ((Names (state_of V.model V.means rack.old.core) first) × (Names (state_of V.model V.means rack.old.core) second)) }
+    ensures names { IfOk result (λ ticket. Names (state_of V.model V.means rack.new.core) ticket) }
+    ensures ticket { IfOk result (λ ticket. ticket ≡ first) }
+    ensures answers { OnOk result ((n : ℕ) × Answers V.model (pair kind.Fork first.shelf second.shelf) (accepted n) (state_of V.model V.means rack.old.core) (state_of V.model V.means rack.new.core)) }
 {
     match rack.fork(first, second) {
         Ok(built) => {
@@ -60,8 +55,8 @@ pub fn build<V: Algebra>(
     sweep: &[Arc],
     radar: &[Arc],
 ) -> Result<Ticket, Refusal>
-    ensures names { λ r. ⌜ Cases r (λ ticket. Names (state-of model means (now (rack .exit) .core)) ticket) (λ _. Unit {0}) ⌝ }
-    ensures plan { λ r. ⌜ Cases r (λ ticket. (h : List (Event model)) → Made model h (state-of model means (now (rack .entry) .core)) → HoldsPlan model (state-of model means (now (rack .exit) .core)) (ticket .shelf) (side-by-side (now (sweep .entry)) (now (radar .entry)))) (λ _. Unit {0}) ⌝ }
+    ensures names { IfOk result (λ ticket. Names (state_of V.model V.means rack.new.core) ticket) }
+    ensures plan { IfOk result (λ ticket. (h : List (Event V.model)) → Made V.model h (state_of V.model V.means rack.old.core) → HoldsPlan V.model (state_of V.model V.means rack.new.core) ticket.shelf (side_by_side sweep.now radar.now)) }
 {
     let built = rack.table(0, sweep)?;
     let Built {

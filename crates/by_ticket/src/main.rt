@@ -1,23 +1,21 @@
 // Builds two threads by ticket, and prints the line of their worst tick.
+#![tactic(auto)]
+
 mod build;
 
-ghost use Prim.Native.Nat.{_≤_};
-ghost use lib.ListN.{length};
-ghost use Rattle·std.specs.Results.{Cases};
-ghost use Rattle·shelves.specs.Promise.{Figured};
-ghost use Rattle·shelves.specs.Told.{report-of};
-ghost use Rattle·by_ticket·specs.Threads.{side-by-side};
+ghost use Rattle.std.specs.Prelude.{◌≤◌, length, IfOk};
+ghost use Rattle.shelves.specs.Promise.{Figured};
+ghost use Rattle.shelves.specs.Told.{report_of};
+ghost use Rattle.by_ticket.specs.Threads.{side_by_side};
+
 use algebra::algebra::Algebra;
 use algebra::arc::Arc;
 use algebra::label::Label;
 use algebra::worst::Worst;
-use algebra::worst::WorstAlgebra;
-use build::build;
-use build::end;
+use build::{build, end};
 use lines::line::line;
 use shelves::refusal::Refusal;
 use shelves::report::Report;
-use shown::WorstShown;
 use std::io;
 use tickets::ticket_rack::TicketRack;
 
@@ -67,8 +65,8 @@ fn look<V: Algebra>(
     sweep: &[Arc],
     radar: &[Arc],
 ) -> Result<Report<V>, Refusal>
-    requires { ⌜ 4096 ≤ length (now cells) ⌝ }
-    ensures { λ r. ⌜ Cases r (λ report. Figured model (side-by-side (now (sweep .entry)) (now (radar .entry))) (report-of model means report)) (λ _. Unit {0}) ⌝ }
+    requires { 4096 ≤ length cells.old }
+    ensures { IfOk result (λ report. Figured V.model (side_by_side sweep.now radar.now) (report_of V.model V.means report)) }
 {
     let mut rack = TicketRack::open(cells);
     let ticket = build(&mut rack, sweep, radar)?;
@@ -77,16 +75,16 @@ fn look<V: Algebra>(
     report
 }
 
-fn main(rt: LibcRuntime) -> io::Result<()> {
+fn main(rt: HostRuntime) -> io::Result<()> {
     let mut cells = [None; 4096];
     match look::<Worst>(&mut cells, &SWEEP, &RADAR) {
         Ok(report) => {
             let text = line(rt.alloc(), Ok(report))?;
-            println!(rt, "{text}")
+            println!(rt; "{text}")
         }
         Err(why) => {
             let number = why.number();
-            println!(rt, "refused {number}")
+            println!(rt; "refused {number}")
         }
     }
 }

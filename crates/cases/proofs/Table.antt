@@ -1,68 +1,68 @@
 -- The table of worked cases, each from its pieces by tests that compute.
-use mathlib.Core.Path.{refl}
-use Rattle·algebra.specs.Models.{worst, best}
-use Rattle·rows.specs.Rules.Fork.{fork as fork-rule}
-use Rattle·rows.specs.Rules.Loop.{loop as loop-rule}
-use Rattle·rows.specs.Rules.Sequence.{sequence as sequence-rule}
-use Rattle·rows.specs.Rules.Table.{table as table-rule}
-use Rattle·runs.proofs.Rules.Table.{table-computes}
-use Rattle·cases·specs.Case.{Works}
-use Rattle·cases·specs.Cases.{Cases, node-of, pause-of, beat, two-pauses, turns, side-by-side, one-beside-two, watch-arcs, watch, job, watched-job, either, detour-arcs, detour, best-detour}
-use Rattle·cases·proofs.Cycles.{worsts, bests}
-use Rattle·cases·proofs.EachKind.{of-loop, of-choice, of-sequence, of-fork, of-abort}
-use Rattle·cases·proofs.Leaves.{nodes-stand, pauses-stand}
-use Rattle·cases·proofs.Peaks.{peaks}
-use Rattle·cases·proofs.Tables.{lead-on}
-use Rattle·cases·proofs.Working.{works}
+use Rattle.std.proofs.Common.{refl}
+use Rattle.algebra.specs.Models.{worst, best}
+use Rattle.rows.specs.Rules.Fork.{fork as fork_rule}
+use Rattle.rows.specs.Rules.Loop.{loop as loop_rule}
+use Rattle.rows.specs.Rules.Sequence.{sequence as sequence_rule}
+use Rattle.rows.specs.Rules.Table.{table as table_rule}
+use Rattle.runs.proofs.Rules.Table.{table_computes}
+use Rattle.cases.specs.Case.{Works}
+use Rattle.cases.specs.Cases.{Cases, node_of, pause_of, beat, two_pauses, turns, side_by_side, one_beside_two, watch_arcs, watch, job, watched_job, either, detour_arcs, detour, best_detour}
+use Rattle.cases.proofs.Cycles.{worsts, bests}
+use Rattle.cases.proofs.EachKind.{of_loop, of_choice, of_sequence, of_fork, of_abort}
+use Rattle.cases.proofs.Leaves.{nodes_stand, pauses_stand}
+use Rattle.cases.proofs.Peaks.{peaks}
+use Rattle.cases.proofs.Tables.{lead_on}
+use Rattle.cases.proofs.Working.{works}
 
-a-beat : Works (loop-rule worst (pause-of 10 .rows)) 2 (beat 10)
-a-beat = works worsts (beat 10) _ 1 refl (refl, refl, refl) refl (of-loop (worsts .laws) (pauses-stand 10) refl)
+a_beat : Works (loop_rule worst (pause_of 10).rows) 2 (beat 10)
+a_beat = works worsts (beat 10) _ 1 refl (refl, refl, refl) refl (of_loop worsts.laws (pauses_stand 10) refl)
 
-four-nine : Works (sequence-rule worst (pause-of 4 .rows) (pause-of 9 .rows)) 4 (two-pauses 4 9)
-four-nine = works worsts (two-pauses 4 9) _ 3 refl (refl, refl, refl) refl (of-sequence (worsts .laws) (pauses-stand 4) (pauses-stand 9))
+four_nine : Works (sequence_rule worst (pause_of 4).rows (pause_of 9).rows) 4 (two_pauses 4 9)
+four_nine = works worsts (two_pauses 4 9) _ 3 refl (refl, refl, refl) refl (of_sequence worsts.laws (pauses_stand 4) (pauses_stand 9))
 
-nine-two : Works (sequence-rule worst (pause-of 9 .rows) (pause-of 2 .rows)) 4 (two-pauses 9 2)
-nine-two = works worsts (two-pauses 9 2) _ 3 refl (refl, refl, refl) refl (of-sequence (worsts .laws) (pauses-stand 9) (pauses-stand 2))
+nine_two : Works (sequence_rule worst (pause_of 9).rows (pause_of 2).rows) 4 (two_pauses 9 2)
+nine_two = works worsts (two_pauses 9 2) _ 3 refl (refl, refl, refl) refl (of_sequence worsts.laws (pauses_stand 9) (pauses_stand 2))
 
-three-eight : Works (sequence-rule worst (pause-of 3 .rows) (pause-of 8 .rows)) 4 (two-pauses 3 8)
-three-eight = works worsts (two-pauses 3 8) _ 3 refl (refl, refl, refl) refl (of-sequence (worsts .laws) (pauses-stand 3) (pauses-stand 8))
+three_eight : Works (sequence_rule worst (pause_of 3).rows (pause_of 8).rows) 4 (two_pauses 3 8)
+three_eight = works worsts (two_pauses 3 8) _ 3 refl (refl, refl, refl) refl (of_sequence worsts.laws (pauses_stand 3) (pauses_stand 8))
 
-four-nine-turns : Works (loop-rule worst (two-pauses 4 9 .rows)) 3 (turns 4 9)
-four-nine-turns = works worsts (turns 4 9) _ 1 refl (refl, refl, refl) refl (of-loop (worsts .laws) (four-nine .stands) refl)
+four_nine_turns : Works (loop_rule worst (two_pauses 4 9).rows) 3 (turns 4 9)
+four_nine_turns = works worsts (turns 4 9) _ 1 refl (refl, refl, refl) refl (of_loop worsts.laws four_nine.stands refl)
 
-nine-two-turns : Works (loop-rule worst (two-pauses 9 2 .rows)) 3 (turns 9 2)
-nine-two-turns = works worsts (turns 9 2) _ 1 refl (refl, refl, refl) refl (of-loop (worsts .laws) (nine-two .stands) refl)
+nine_two_turns : Works (loop_rule worst (two_pauses 9 2).rows) 3 (turns 9 2)
+nine_two_turns = works worsts (turns 9 2) _ 1 refl (refl, refl, refl) refl (of_loop worsts.laws nine_two.stands refl)
 
-both-turns : Works (fork-rule worst (turns 4 9 .rows) (turns 9 2 .rows)) 2 side-by-side
-both-turns = works worsts side-by-side _ 0 refl (refl, refl, refl) refl (of-fork (worsts .laws) (four-nine-turns .stands) (nine-two-turns .stands))
+both_turns : Works (fork_rule worst (turns 4 9).rows (turns 9 2).rows) 2 side_by_side
+both_turns = works worsts side_by_side _ 0 refl (refl, refl, refl) refl (of_fork worsts.laws four_nine_turns.stands nine_two_turns.stands)
 
-beside : Works (fork-rule worst (pause-of 5 .rows) (two-pauses 3 8 .rows)) 4 one-beside-two
-beside = works worsts one-beside-two _ 3 refl (refl, refl, refl) refl (of-fork (worsts .laws) (pauses-stand 5) (three-eight .stands))
+beside : Works (fork_rule worst (pause_of 5).rows (two_pauses 3 8).rows) 4 one_beside_two
+beside = works worsts one_beside_two _ 3 refl (refl, refl, refl) refl (of_fork worsts.laws (pauses_stand 5) three_eight.stands)
 
-a-watch : Works (table-rule worst watch-arcs) 1 watch
-a-watch = works worsts watch _ 0 refl (refl, refl, refl) refl (table-computes worst watch-arcs (lead-on watch-arcs refl) (worsts .laws))
+a_watch : Works (table_rule worst watch_arcs) 1 watch
+a_watch = works worsts watch _ 0 refl (refl, refl, refl) refl (table_computes worst watch_arcs (lead_on watch_arcs refl) worsts.laws)
 
-a-job : Works (sequence-rule worst (pause-of 30 .rows) (node-of 1 .rows)) 3 job
-a-job = works worsts job _ 2 refl (refl, refl, refl) refl (of-sequence (worsts .laws) (pauses-stand 30) (nodes-stand 1))
+a_job : Works (sequence_rule worst (pause_of 30).rows (node_of 1).rows) 3 job
+a_job = works worsts job _ 2 refl (refl, refl, refl) refl (of_sequence worsts.laws (pauses_stand 30) (nodes_stand 1))
 
 pub table : Cases
 table = record {
-  nodes-stand = nodes-stand;
-  node-peaks = peaks (node-of 7) 7 0 (nodes-stand 7) (refl, refl, refl);
-  pauses-stand = pauses-stand;
-  beat-works = a-beat;
-  four-nine-works = four-nine;
-  nine-two-works = nine-two;
-  three-eight-works = three-eight;
-  four-nine-turns-work = four-nine-turns;
-  nine-two-turns-work = nine-two-turns;
-  side-by-side-works = both-turns;
-  side-by-side-peaks = peaks side-by-side 13 0 (both-turns .stands) (refl, refl, refl);
-  one-beside-two-works = beside;
-  watch-works = a-watch;
-  job-works = a-job;
-  watched-job-works = works worsts watched-job _ 2 refl (refl, refl, refl) refl (of-abort (worsts .laws) (a-watch .stands) (a-job .stands));
-  either-works = works worsts either _ 2 refl (refl, refl, refl) refl (of-choice (worsts .laws) (pauses-stand 10) (nodes-stand 40));
-  detour-works = works worsts detour _ 0 refl (refl, refl, refl) refl (table-computes worst detour-arcs (lead-on detour-arcs refl) (worsts .laws));
-  best-detour-works = works bests best-detour _ 0 refl (refl, refl, refl) refl (table-computes best detour-arcs (lead-on detour-arcs refl) (bests .laws));
+  nodes_stand = nodes_stand;
+  node_peaks = peaks (node_of 7) 7 0 (nodes_stand 7) (refl, refl, refl);
+  pauses_stand = pauses_stand;
+  beat_works = a_beat;
+  four_nine_works = four_nine;
+  nine_two_works = nine_two;
+  three_eight_works = three_eight;
+  four_nine_turns_work = four_nine_turns;
+  nine_two_turns_work = nine_two_turns;
+  side_by_side_works = both_turns;
+  side_by_side_peaks = peaks side_by_side 13 0 both_turns.stands (refl, refl, refl);
+  one_beside_two_works = beside;
+  watch_works = a_watch;
+  job_works = a_job;
+  watched_job_works = works worsts watched_job _ 2 refl (refl, refl, refl) refl (of_abort worsts.laws a_watch.stands a_job.stands);
+  either_works = works worsts either _ 2 refl (refl, refl, refl) refl (of_choice worsts.laws (pauses_stand 10) (nodes_stand 40));
+  detour_works = works worsts detour _ 0 refl (refl, refl, refl) refl (table_computes worst detour_arcs (lead_on detour_arcs refl) worsts.laws);
+  best_detour_works = works bests best_detour _ 0 refl (refl, refl, refl) refl (table_computes best detour_arcs (lead_on detour_arcs refl) bests.laws);
 }

@@ -1,7 +1,9 @@
 // Worked cases: what small plans come to under the definitions, tick by tick.
-ghost use Rattle·cases·specs.Cases.{Cases};
+#![tactic(auto)]
+
+ghost use Rattle.cases.specs.Cases.{Cases};
 
 // Every row of the table of worked cases holds.
 pub fn cases_stand() -> ()
-    ensures { λ _. ⌜ Cases ⌝ }
+    ensures { Cases }
 {}

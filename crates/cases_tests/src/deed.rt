@@ -1,7 +1,6 @@
 // The calls of a script, with labels by their cost and tables by their name.
 use algebra::algebra::Algebra;
-use algebra::arc::Arc;
-use algebra::arc::OUT;
+use algebra::arc::{Arc, OUT};
 use algebra::label::Label;
 use rack::rack::Rack;
 use shelves::refusal::Refusal;

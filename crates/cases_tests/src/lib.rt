@@ -1,4 +1,6 @@
 // The worked cases, run on a rack under each algebra.
+#![tactic(auto)]
+
 #[cfg(test)]
 mod deed;
 #[cfg(test)]

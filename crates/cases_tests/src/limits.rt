@@ -1,15 +1,15 @@
 // Sums at the top, rows as long as a shelf, rows too long for it, and situations that repeat too late.
 use crate::deed::Deed::*;
 use crate::deed::States::*;
-use crate::script::Line;
 use crate::script::Line::*;
-use crate::script::under_each;
+use crate::script::{Line, under_each};
 use std::test::*;
 
 // Four nodes of the most cycles, then one of 2: the sum is one below the top. With one of 3 it is at the top.
 #[test]
-fn five_nodes() -> Result<(), Fail> {
+fn five_nodes(rt: HostRuntime) -> Result<(), Fail> {
     under_each(
+        &rt,
         &[
             Done(Node(0, 1_073_741_823), 0),
             Done(Node(2, 1_073_741_823), 0),
@@ -48,8 +48,9 @@ fn five_nodes() -> Result<(), Fail> {
 }
 
 #[test]
-fn rings() -> Result<(), Fail> {
+fn rings(rt: HostRuntime) -> Result<(), Fail> {
     under_each(
+        &rt,
         &[
             Done(Table(0, Ring(7)), 7),
             Report(0, (1, 0), (0, 1), 0x3, (0, 7)),
@@ -86,6 +87,6 @@ fn pauses() -> [Line; 127] {
 }
 
 #[test]
-fn chain() -> Result<(), Fail> {
-    under_each(&pauses())
+fn chain(rt: HostRuntime) -> Result<(), Fail> {
+    under_each(&rt, &pauses())
 }

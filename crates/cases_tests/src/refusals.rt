@@ -1,26 +1,26 @@
 // Every refusal by its number.
 use crate::deed::Deed::*;
 use crate::deed::States::*;
-use crate::script::Line;
 use crate::script::Line::*;
-use crate::script::under_each;
+use crate::script::{Line, under_each};
 use algebra::worst::Worst;
-use algebra::worst::WorstAlgebra;
 use shelves::opening::enough;
 use shelves::refusal::Refusal;
 use std::test::*;
 
 #[test]
-fn few_cells() -> Result<(), Fail> {
+fn few_cells(rt: HostRuntime) -> Result<(), Fail> {
     let cells: [Option<Worst>; 4096] = [None; 4096];
-    check(enough(&cells))?;
-    check(!enough(&cells[0..4095]))?;
-    check_eq(Refusal::FewCells.number(), 1)
+    assert!(rt; enough(&cells));
+    assert!(rt; !enough(&cells[0..4095]));
+    assert_eq!(rt; Refusal::FewCells.number(), 1);
+    Ok(())
 }
 
 #[test]
-fn shelves_and_labels() -> Result<(), Fail> {
+fn shelves_and_labels(rt: HostRuntime) -> Result<(), Fail> {
     under_each(
+        &rt,
         &[
             Refused(Node(16, 1), 2),
             NoReport(16, 2),
@@ -34,8 +34,9 @@ fn shelves_and_labels() -> Result<(), Fail> {
 }
 
 #[test]
-fn arcs() -> Result<(), Fail> {
+fn arcs(rt: HostRuntime) -> Result<(), Fail> {
     under_each(
+        &rt,
         &[
             Refused(Table(0, Ring(0)), 7),
             Refused(Table(0, Ring(65)), 7),
@@ -58,6 +59,6 @@ fn nodes() -> [Line; 1023] {
 }
 
 #[test]
-fn steps() -> Result<(), Fail> {
-    under_each(&nodes())
+fn steps(rt: HostRuntime) -> Result<(), Fail> {
+    under_each(&rt, &nodes())
 }

@@ -1,18 +1,13 @@
 // A script: calls, each with what it is awaited to answer, played on a rack under each algebra.
-use crate::deed::Deed;
-use crate::deed::perform;
+use crate::deed::{Deed, perform};
 use crate::told::*;
 use algebra::best::Best;
-use algebra::best::BestAlgebra;
 use algebra::pair::Pair;
-use algebra::pair::PairAlgebra;
 use algebra::ports::Ports;
-use algebra::ports::PortsAlgebra;
 use algebra::worst::Worst;
-use algebra::worst::WorstAlgebra;
 use rack::rack::Rack;
 use shelves::opening::enough;
-use shelves::refusal::RefusalDebug;
+use std::process::Abort;
 use std::test::*;
 
 #[derive(Clone, Copy)]
@@ -33,55 +28,76 @@ const PAUSE: Line = Line::Done(Deed::Pause(15, 10), 0);
 const ITS_REPORT: Line = Line::Report(15, (10, 0), (0, 1), 0x400, (2, 1));
 
 fn reports<V: Told>(
+    rt: &impl Abort,
     rack: &Rack<V>,
     shelf: u8,
     awaited: Figures,
     shape: (usize, usize),
 ) -> Result<(), Fail> {
     let report = rack.report(shelf)?;
-    check_eq((report.transient, report.period), shape)?;
+    assert_eq!(rt; (report.transient, report.period), shape);
     match report.figure {
-        Some(figure) => figure.told(report.tick, awaited),
-        None => Err(Fail::new("no figure")),
+        Some(figure) => figure.told(rt, report.tick, awaited),
+        None => return Err(Fail::new("no figure")),
     }
+    Ok(())
 }
 
-fn play<V: Told>(rack: &mut Rack<V>, line: Line) -> Result<(), Fail> {
+// Plays one line; a failed check names it by its place in the script.
+fn play<V: Told>(
+    rt: &impl Abort,
+    rack: &mut Rack<V>,
+    line: Line,
+    place: usize,
+) -> Result<(), Fail> {
     match line {
-        Line::Done(deed, number) => check_eq(perform(rack, deed)?, number),
+        Line::Done(deed, number) => {
+            assert_eq!(rt; perform(rack, deed)?, number, "line {place}");
+            Ok(())
+        },
         Line::Refused(deed, number) => match perform(rack, deed) {
             Ok(_) => Err(Fail::new("done")),
-            Err(why) => check_eq(why.number(), number),
+            Err(why) => {
+                assert_eq!(rt; why.number(), number, "line {place}");
+                Ok(())
+            },
         },
         Line::Report(shelf, worst, best, ports, shape) => {
-            reports(rack, shelf, Figures { worst, best, ports }, shape)
+            reports(rt, rack, shelf, Figures { worst, best, ports }, shape)
         }
         Line::NoReport(shelf, number) => match rack.report(shelf) {
             Ok(_) => Err(Fail::new("reported")),
-            Err(why) => check_eq(why.number(), number),
+            Err(why) => {
+                assert_eq!(rt; why.number(), number, "line {place}");
+                Ok(())
+            },
         },
     }
 }
 
 // After each line the pause on shelf 15 is reported as before.
-pub fn play_all<V: Told>(cells: &mut [Option<V>], script: &[Line]) -> Result<(), Fail> {
-    check(enough(cells))?;
+pub fn play_all<V: Told>(
+    rt: &impl Abort,
+    cells: &mut [Option<V>],
+    script: &[Line],
+) -> Result<(), Fail> {
+    assert!(rt; enough(cells));
     let mut rack = Rack::open(cells);
-    play(&mut rack, PAUSE)?;
+    play(rt, &mut rack, PAUSE, 0)?;
     for (k, line) in script.iter().enumerate() {
-        play(&mut rack, *line).note(format_args!("line {k}"))?;
-        play(&mut rack, ITS_REPORT)?;
+        play(rt, &mut rack, *line, k)?;
+        play(rt, &mut rack, ITS_REPORT, k)?;
     }
     Ok(())
 }
 
-pub fn under_each(script: &[Line]) -> Result<(), Fail> {
+pub fn under_each(rt: &impl Abort, script: &[Line]) -> Result<(), Fail> {
     let mut worst: [Option<Worst>; 4096] = [None; 4096];
-    play_all(&mut worst, script)?;
+    play_all(rt, &mut worst, script)?;
     let mut best: [Option<Best>; 4096] = [None; 4096];
-    play_all(&mut best, script)?;
+    play_all(rt, &mut best, script)?;
     let mut ports: [Option<Ports>; 4096] = [None; 4096];
-    play_all(&mut ports, script)?;
+    play_all(rt, &mut ports, script)?;
     let mut pair: [Option<Pair<Worst, Ports>>; 4096] = [None; 4096];
-    play_all(&mut pair, script)
+    play_all(rt, &mut pair, script)
 }

@@ -6,8 +6,9 @@ use crate::script::under_each;
 use std::test::*;
 
 #[test]
-fn leaves() -> Result<(), Fail> {
+fn leaves(rt: HostRuntime) -> Result<(), Fail> {
     under_each(
+        &rt,
         &[
             Done(Node(0, 7), 0),
             Report(0, (7, 0), (7, 0), 0x80, (1, 1)),
@@ -21,8 +22,9 @@ fn leaves() -> Result<(), Fail> {
 
 // Two loops whose long ticks never meet.
 #[test]
-fn side_by_side() -> Result<(), Fail> {
+fn side_by_side(rt: HostRuntime) -> Result<(), Fail> {
     under_each(
+        &rt,
         &[
             Done(Pause(0, 4), 0),
             Done(Pause(1, 9), 0),
@@ -44,8 +46,9 @@ fn side_by_side() -> Result<(), Fail> {
 
 // The fork leaves with the second of the two pauses.
 #[test]
-fn one_beside_two() -> Result<(), Fail> {
+fn one_beside_two(rt: HostRuntime) -> Result<(), Fail> {
     under_each(
+        &rt,
         &[
             Done(Pause(0, 5), 0),
             Done(Pause(1, 3), 0),
@@ -59,8 +62,9 @@ fn one_beside_two() -> Result<(), Fail> {
 
 // A table that may lead out at any tick, over a pause and a node.
 #[test]
-fn watched_job() -> Result<(), Fail> {
+fn watched_job(rt: HostRuntime) -> Result<(), Fail> {
     under_each(
+        &rt,
         &[
             Done(Table(0, Watch), 1),
             Report(0, (20, 0), (6, 0), 0x10_0040, (0, 1)),
@@ -76,8 +80,9 @@ fn watched_job() -> Result<(), Fail> {
 
 // A choice that may leave at once has no loop.
 #[test]
-fn either() -> Result<(), Fail> {
+fn either(rt: HostRuntime) -> Result<(), Fail> {
     under_each(
+        &rt,
         &[
             Done(Pause(0, 10), 0),
             Done(Node(1, 40), 0),
@@ -92,8 +97,9 @@ fn either() -> Result<(), Fail> {
 }
 
 #[test]
-fn detour() -> Result<(), Fail> {
+fn detour(rt: HostRuntime) -> Result<(), Fail> {
     under_each(
+        &rt,
         &[
             Done(Table(0, Detour), 2),
             Report(0, (8, 0), (1, 1), 0x12a, (0, 2)),
@@ -103,8 +109,9 @@ fn detour() -> Result<(), Fail> {
 
 // An equal tick is not yet a repeat.
 #[test]
-fn three_pauses() -> Result<(), Fail> {
+fn three_pauses(rt: HostRuntime) -> Result<(), Fail> {
     under_each(
+        &rt,
         &[
             Done(Pause(0, 5), 0),
             Done(Pause(1, 5), 0),

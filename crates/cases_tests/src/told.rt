@@ -1,14 +1,10 @@
 // What a report tells under each algebra.
 use algebra::algebra::Algebra;
 use algebra::best::Best;
-use algebra::best::BestAlgebra;
 use algebra::pair::Pair;
-use algebra::pair::PairAlgebra;
 use algebra::ports::Ports;
-use algebra::ports::PortsAlgebra;
 use algebra::worst::Worst;
-use algebra::worst::WorstAlgebra;
-use std::test::*;
+use std::process::Abort;
 
 // What is awaited: a figure with the first tick that reaches it, or a figure alone. The pair's is worst's beside the
 // ports.
@@ -21,33 +17,33 @@ pub struct Figures {
 
 pub trait Told: Algebra {
     // Are a report's figure and tick as awaited?
-    fn told(self, tick: Option<usize>, awaited: Figures) -> Result<(), Fail>;
+    fn told(self, rt: &impl Abort, tick: Option<usize>, awaited: Figures);
 }
 
-pub impl Told for Worst as WorstTold {
-    fn told(self, tick: Option<usize>, awaited: Figures) -> Result<(), Fail> {
+impl Told for Worst {
+    fn told(self, rt: &impl Abort, tick: Option<usize>, awaited: Figures) {
         let (figure, first) = awaited.worst;
-        check_eq((self.cycles, tick), (figure, Some(first)))
+        assert_eq!(rt; (self.cycles, tick), (figure, Some(first)));
     }
 }
 
-pub impl Told for Best as BestTold {
-    fn told(self, tick: Option<usize>, awaited: Figures) -> Result<(), Fail> {
+impl Told for Best {
+    fn told(self, rt: &impl Abort, tick: Option<usize>, awaited: Figures) {
         let (figure, first) = awaited.best;
-        check_eq((self.cycles, tick), (figure, Some(first)))
+        assert_eq!(rt; (self.cycles, tick), (figure, Some(first)));
     }
 }
 
-pub impl Told for Ports as PortsTold {
-    fn told(self, tick: Option<usize>, awaited: Figures) -> Result<(), Fail> {
-        check_eq((self.bits, tick), (awaited.ports, None))
+impl Told for Ports {
+    fn told(self, rt: &impl Abort, tick: Option<usize>, awaited: Figures) {
+        assert_eq!(rt; (self.bits, tick), (awaited.ports, None));
     }
 }
 
-pub impl Told for Pair<Worst, Ports> as PairTold {
-    fn told(self, tick: Option<usize>, awaited: Figures) -> Result<(), Fail> {
+impl Told for Pair<Worst, Ports> {
+    fn told(self, rt: &impl Abort, tick: Option<usize>, awaited: Figures) {
         let (figure, _) = awaited.worst;
         let both = (self.first.cycles, self.second.bits);
-        check_eq((both, tick), ((figure, awaited.ports), None))
+        assert_eq!(rt; (both, tick), ((figure, awaited.ports), None));
     }
 }

@@ -1,4 +1,6 @@
 // The lines that are printed, one for each algebra.
+#![tactic(auto)]
+
 pub mod line;
 pub mod printout;
 pub mod told;

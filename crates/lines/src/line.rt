@@ -1,16 +1,14 @@
 // What an analysis of one algebra came to, in a line.
-ghost use mathlib.Core.Path.{_≡_};
-ghost use Rattle·std.specs.Of.String.{string-bytes};
-ghost use Rattle·std.specs.Vec.{made};
-ghost use Rattle·lines·specs.Words.{figure-words, tick-words, reported-words, refused-words, line-words};
+ghost use Rattle.std.specs.Prelude.{◌≡◌, IfOk, string_bytes};
+ghost use Rattle.lines.specs.Words.{figure_words, tick_words, reported_words, refused_words, line_words};
+
 use analyser::fault::Fault;
 use shelves::report::Report;
 use shown::Shown;
-use std::alloc::AllocError;
-use std::alloc::Global;
+use std::alloc::{AllocError, Global};
 
 fn figure<V: Shown>(heap: Global, figure: Option<V>) -> Result<String, AllocError>
-    ensures { λ r. ⌜ made r (λ s. string-bytes s ≡ figure-words (V·Shown .words) figure) ⌝ }
+    ensures { IfOk result (λ s. string_bytes s ≡ figure_words V.Shown.words figure) }
 {
     match figure {
         Some(value) => value.figure(heap),
@@ -19,10 +17,10 @@ fn figure<V: Shown>(heap: Global, figure: Option<V>) -> Result<String, AllocErro
 }
 
 fn tick(heap: Global, tick: Option<usize>) -> Result<String, AllocError>
-    ensures { λ r. ⌜ made r (λ s. string-bytes s ≡ tick-words tick) ⌝ }
+    ensures { IfOk result (λ s. string_bytes s ≡ tick_words tick) }
 {
     match tick {
-        Some(first) => format!(heap, " tick {first}"),
+        Some(first) => format!(in heap; " tick {first}"),
         None => String::from_str(heap, ""),
     }
 }
@@ -35,22 +33,19 @@ fn reported(
     transient: usize,
     period: usize,
 ) -> Result<String, AllocError>
-    ensures { λ r. ⌜ made r (λ s. string-bytes s ≡ reported-words (now (name .entry)) (now (figure .entry)) (now (tick .entry)) transient period) ⌝ }
+    ensures { IfOk result (λ s. string_bytes s ≡ reported_words name.now figure.now tick.now transient period) }
 {
-    format!(
-        heap,
-        "{name} {figure}{tick} transient {transient} period {period}"
-    )
+    format!(in heap; "{name} {figure}{tick} transient {transient} period {period}")
 }
 
 fn refused(heap: Global, name: &str, number: u8, accepted: usize) -> Result<String, AllocError>
-    ensures { λ r. ⌜ made r (λ s. string-bytes s ≡ refused-words (now (name .entry)) number accepted) ⌝ }
+    ensures { IfOk result (λ s. string_bytes s ≡ refused_words name.now number accepted) }
 {
-    format!(heap, "{name} refused {number} record {accepted}")
+    format!(in heap; "{name} refused {number} record {accepted}")
 }
 
 fn report_line<V: Shown>(heap: Global, report: Report<V>) -> Result<String, AllocError>
-    ensures { λ r. ⌜ made r (λ s. string-bytes s ≡ reported-words (V·Shown .named) (figure-words (V·Shown .words) (report .figure)) (tick-words (report .tick)) (report .transient) (report .period)) ⌝ }
+    ensures { IfOk result (λ s. string_bytes s ≡ reported_words V.Shown.named (figure_words V.Shown.words report.figure) (tick_words report.tick) report.transient report.period) }
 {
     let worth = figure(heap, report.figure)?;
     let first = tick(heap, report.tick)?;
@@ -66,7 +61,7 @@ fn report_line<V: Shown>(heap: Global, report: Report<V>) -> Result<String, Allo
 
 // The line of an algebra: what was reported, or what was refused.
 pub fn line<V: Shown>(heap: Global, found: Result<Report<V>, Fault>) -> Result<String, AllocError>
-    ensures { λ r. ⌜ made r (λ s. string-bytes s ≡ line-words (V·Shown .named) (V·Shown .words) found) ⌝ }
+    ensures { IfOk result (λ s. string_bytes s ≡ line_words V.Shown.named V.Shown.words found) }
 {
     match found {
         Ok(report) => report_line(heap, report),

@@ -1,30 +1,21 @@
 // A program file in, the lines of worst, best and ports out.
-ghost use mathlib.Core.List.{[], _∷_, _++_};
-ghost use mathlib.Core.Path.{_≡_};
-ghost use Rattle·std.specs.Of.String.{string-bytes};
-ghost use Rattle·std.specs.Vec.{made};
-ghost use Rattle·lines·specs.Lines.{PrintoutOf};
+ghost use Rattle.std.specs.Prelude.{◌≡◌, [], ◌∷◌, ◌++◌, IfOk, string_bytes};
+ghost use Rattle.lines.specs.Lines.{PrintoutOf};
+
 use crate::told::told;
 use algebra::best::Best;
-use algebra::best::BestAlgebra;
 use algebra::ports::Ports;
-use algebra::ports::PortsAlgebra;
 use algebra::worst::Worst;
-use algebra::worst::WorstAlgebra;
-use shown::BestShown;
-use shown::PortsShown;
-use shown::WorstShown;
-use std::alloc::AllocError;
-use std::alloc::Global;
+use std::alloc::{AllocError, Global};
 
 fn three(heap: Global, first: &str, second: &str, third: &str) -> Result<String, AllocError>
-    ensures { λ r. ⌜ made r (λ s. string-bytes s ≡ now (first .entry) ++ (10 ∷ (now (second .entry) ++ (10 ∷ (now (third .entry) ++ (10 ∷ [])))))) ⌝ }
+    ensures { IfOk result (λ s. string_bytes s ≡ first.now ++ (10 ∷ (second.now ++ (10 ∷ (third.now ++ (10 ∷ [])))))) }
 {
-    format!(heap, "{first}\n{second}\n{third}\n")
+    format!(in heap; "{first}\n{second}\n{third}\n")
 }
 
 pub fn printout(heap: Global, bytes: &[u8]) -> Result<String, AllocError>
-    ensures { λ r. ⌜ made r (λ s. PrintoutOf (now (bytes .entry)) (string-bytes s)) ⌝ }
+    ensures { IfOk result (λ s. PrintoutOf bytes.now (string_bytes s)) }
 {
     let mut worst_cells: [Option<Worst>; 4096] = [None; 4096];
     let worst = told(heap, bytes, &mut worst_cells)?;

@@ -1,20 +1,20 @@
 // Analyses each program file that its arguments name, and compares what is printed with the text beside the file.
-use lines::printout::printout;
-use std::env;
-use std::fs;
-use std::io;
+#![tactic(auto)]
 
-fn agrees(rt: &LibcRuntime, name: &str) -> io::Result<bool> {
+use lines::printout::printout;
+use std::{env, fs, io};
+
+fn agrees(rt: &HostRuntime, name: &str) -> io::Result<bool> {
     let heap = rt.alloc();
-    let file = format!(heap, "{name}.bin")?;
-    let beside = format!(heap, "{name}.txt")?;
+    let file = format!(in heap; "{name}.bin")?;
+    let beside = format!(in heap; "{name}.txt")?;
     let bytes = fs::read(rt, file.as_str())?;
     let wanted = fs::read_to_string(rt, beside.as_str())?;
     let text = printout(heap, bytes.as_slice())?;
     Ok(text.as_str() == wanted.as_str())
 }
 
-fn main(rt: LibcRuntime) -> io::Result<()> {
+fn main(rt: HostRuntime) -> io::Result<()> {
     for (i, name) in env::args(&rt)?.enumerate() {
         if i > 0 {
             let said = if agrees(&rt, name.as_str())? {
@@ -22,7 +22,7 @@ fn main(rt: LibcRuntime) -> io::Result<()> {
             } else {
                 "differs"
             };
-            println!(rt, "{name} {said}")?;
+            println!(rt; "{name} {said}")?;
         }
     }
     Ok(())

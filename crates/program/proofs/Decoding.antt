@@ -1,36 +1,31 @@
 -- The entry and the rest are functions of the bytes that spell them.
-use mathlib.Core.Path.{_≡_, refl, sym, ap, _∙_}
-use mathlib.Core.List.{List, [], _∷_, _++_}
-use Prim.Native.Nat.{ℕ, zero, suc, _+_, _-_, _*_, _/_, _%_, _^_, _<_}
-use native.Mathlib.Nat.{div-add-mod', div-div-eq-div-mul, mod-eq-of-lt}
-use native.Mathlib.Omega.{arith}
-use lib.ListN.{length, getD, drop}
-use Rattle·std.specs.Joined.{joined}
-use Rattle·std.specs.Vec.{Every}
-use Rattle·std.proofs.shelf.Lists.{drop-at}
-use Rattle·algebra.specs.declared.arc.Arc.{Arc}
-use Rattle·algebra.specs.declared.label.Label.{Label}
-use Rattle·program·specs.declared.kind.Kind.{Kind}
-use Rattle·program·specs.declared.kind.Kind.the-variants.{Node, Pause, Table, Choice, Sequence, Loop, Fork, Abort, Clear}
-use Rattle·program·specs.Kinds.{number, due}
-use Rattle·program·specs.Entries.{Entry, node, pause, table, choice, sequence, repeat, fork, abort, clear}
-use Rattle·program·specs.Format.{label-bytes, arc-bytes, kind, long, body, bytes, FitsLabel, FitsArc, Fits, Spells, length-in, kind-in, count-in}
-use Rattle·program·proofs.Framing.{length-body}
+use Rattle.std.proofs.Common.{◌≡◌, ℕ, zero, suc, ◌+◌, ◌-◌, ◌*◌, ◌/◌, ◌%◌, ◌^◌, ◌<◌, List, [], ◌∷◌, ◌++◌, length, get_or, drop, sym, refl, ap, ◌∙◌, mod-eq_of_lt, div-add-mod', arith}
+use native.Mathlib.Nat.{div-div-eq-div-mul}
+use Rattle.std.specs.List.{flat_map, AllByRecursion}
+use Rattle.std.proofs.lemmas.List.{drop_at}
+use Rattle.algebra.specs.declared.arc.Arc.{Arc}
+use Rattle.algebra.specs.declared.label.Label.{Label}
+use Rattle.program.specs.declared.kind.Kind.{Kind}
+use Rattle.program.specs.declared.kind.Kind.TheVariants.{Node, Pause, Table, Choice, Sequence, Loop, Fork, Abort, Clear}
+use Rattle.program.specs.Kinds.{number, due}
+use Rattle.program.specs.Entries.{Entry, node, pause, table, choice, sequence, repeat, fork, abort, clear}
+use Rattle.program.specs.Format.{label_bytes, arc_bytes, kind, long, body, bytes, FitsLabel, FitsArc, Fits, Spells, length_in, kind_in, count_in}
+use Rattle.program.proofs.Framing.{length_body}
 
 -- a number is what its bytes spell
-pub two-back : (n : ℕ) → n < 65536 → n % 256 + n / 256 % 256 * 256 ≡ n
-two-back n h = omega arith
+pub two_back : (n : ℕ) → n < 65536 → n % 256 + n / 256 % 256 * 256 ≡ n
+two_back n h = omega arith
 
 -- the same with the quotients by 256 named
-sum-back : (n h₁ h₂ h₃ : ℕ) → h₁ * 256 + n % 256 ≡ n → h₂ * 256 + h₁ % 256 ≡ h₁ → h₃ * 256 + h₂ % 256 ≡ h₂ → h₃ % 256 ≡ h₃ → n % 256 + h₁ % 256 * 256 + h₂ % 256 * 65536 + h₃ % 256 * 16777216 ≡ n
-sum-back n h₁ h₂ h₃ p q r s = omega arith
+sum_back : (n h₁ h₂ h₃ : ℕ) → h₁ * 256 + n % 256 ≡ n → h₂ * 256 + h₁ % 256 ≡ h₁ → h₃ * 256 + h₂ % 256 ≡ h₂ → h₃ % 256 ≡ h₃ → n % 256 + h₁ % 256 * 256 + h₂ % 256 * 65536 + h₃ % 256 * 16777216 ≡ n
+sum_back n h₁ h₂ h₃ p q r s = omega arith
 
-four-back : (n : ℕ) → n < 2 ^ 32 → n % 256 + n / 256 % 256 * 256 + n / 65536 % 256 * 65536 + n / 16777216 % 256 * 16777216 ≡ n
-four-back n h =
+four_back : (n : ℕ) → n < 2 ^ 32 → n % 256 + n / 256 % 256 * 256 + n / 65536 % 256 * 65536 + n / 16777216 % 256 * 16777216 ≡ n
+four_back n h =
     let second : n / 256 / 256 ≡ n / 65536 = div-div-eq-div-mul n 256 256 in
     let third : n / 65536 / 256 ≡ n / 16777216 = div-div-eq-div-mul n 65536 256 in
-    let top : n / 16777216 % 256 ≡ n / 16777216 = mod-eq-of-lt (omega arith) in
-    sum-back n (n / 256) (n / 65536) (n / 16777216)
+    let top : n / 16777216 % 256 ≡ n / 16777216 = mod-eq_of_lt (omega arith) in
+    sum_back n (n / 256) (n / 65536) (n / 16777216)
     (div-add-mod' n 256)
     (ap (λ (x : ℕ). x * 256 + n / 256 % 256) (sym second) ∙ div-add-mod' (n / 256) 256)
     (ap (λ (x : ℕ). x * 256 + n / 65536 % 256) (sym third) ∙ div-add-mod' (n / 65536) 256)
@@ -40,110 +35,110 @@ four-back n h =
 all : List Kind
 all = Node ∷ Pause ∷ Table ∷ Choice ∷ Sequence ∷ Loop ∷ Fork ∷ Abort ∷ Clear ∷ []
 
-kind-at : ℕ → Kind
-kind-at n = getD all (n - 1) Node
+kind_at : ℕ → Kind
+kind_at n = get_or all (n - 1) Node
 
-kind-back : (k : Kind) → kind-at (number k) ≡ k
-unfolding all kind-at
-kind-back Node = refl
-kind-back Pause = refl
-kind-back Table = refl
-kind-back Choice = refl
-kind-back Sequence = refl
-kind-back Loop = refl
-kind-back Fork = refl
-kind-back Abort = refl
-kind-back Clear = refl
+kind_back : (k : Kind) → kind_at (number k) ≡ k
+unfolding all kind_at
+kind_back Node = refl
+kind_back Pause = refl
+kind_back Table = refl
+kind_back Choice = refl
+kind_back Sequence = refl
+kind_back Loop = refl
+kind_back Fork = refl
+kind_back Abort = refl
+kind_back Clear = refl
 
-pub one-kind : (j k : Kind) → number j ≡ number k → j ≡ k
-one-kind j k e = sym (kind-back j) ∙ ap kind-at e ∙ kind-back k
+pub one_kind : (j k : Kind) → number j ≡ number k → j ≡ k
+one_kind j k e = sym (kind_back j) ∙ ap kind_at e ∙ kind_back k
 
 -- what stands at place i and after, read back
-label-at : ℕ → List ℕ → Label
-label-at i bs = record {
-  cycles = getD bs i 0 + getD bs (i + 1) 0 * 256 + getD bs (i + 2) 0 * 65536 + getD bs (i + 3) 0 * 16777216;
-  ports = getD bs (i + 4) 0 + getD bs (i + 5) 0 * 256 + getD bs (i + 6) 0 * 65536 + getD bs (i + 7) 0 * 16777216;
+label_at : ℕ → List ℕ → Label
+label_at i bs = record {
+  cycles = get_or bs i 0 + get_or bs (i + 1) 0 * 256 + get_or bs (i + 2) 0 * 65536 + get_or bs (i + 3) 0 * 16777216;
+  ports = get_or bs (i + 4) 0 + get_or bs (i + 5) 0 * 256 + get_or bs (i + 6) 0 * 65536 + get_or bs (i + 7) 0 * 16777216;
 }
 
-arcs-at : ℕ → List ℕ → List Arc
-arcs-at zero bs = []
-arcs-at (suc n) bs = record { from = getD bs 0 0; to = getD bs 1 0; label = label-at 2 bs } ∷ arcs-at n (drop 10 bs)
+arcs_at : ℕ → List ℕ → List Arc
+arcs_at zero bs = []
+arcs_at (suc n) bs = record { from = get_or bs 0 0; to = get_or bs 1 0; label = label_at 2 bs } ∷ arcs_at n (drop 10 bs)
 
-entry-at : Kind → List ℕ → Entry
-entry-at Node bs = node (getD bs 0 0) (label-at 1 bs)
-entry-at Pause bs = pause (getD bs 0 0) (label-at 1 bs)
-entry-at Table bs = table (getD bs 0 0) (arcs-at (getD bs 1 0 + getD bs 2 0 * 256) (drop 3 bs))
-entry-at Choice bs = choice (getD bs 0 0) (getD bs 1 0)
-entry-at Sequence bs = sequence (getD bs 0 0) (getD bs 1 0)
-entry-at Loop bs = repeat (getD bs 0 0)
-entry-at Fork bs = fork (getD bs 0 0) (getD bs 1 0)
-entry-at Abort bs = abort (getD bs 0 0) (getD bs 1 0)
-entry-at Clear bs = clear (getD bs 0 0)
+entry_at : Kind → List ℕ → Entry
+entry_at Node bs = node (get_or bs 0 0) (label_at 1 bs)
+entry_at Pause bs = pause (get_or bs 0 0) (label_at 1 bs)
+entry_at Table bs = table (get_or bs 0 0) (arcs_at (get_or bs 1 0 + get_or bs 2 0 * 256) (drop 3 bs))
+entry_at Choice bs = choice (get_or bs 0 0) (get_or bs 1 0)
+entry_at Sequence bs = sequence (get_or bs 0 0) (get_or bs 1 0)
+entry_at Loop bs = repeat (get_or bs 0 0)
+entry_at Fork bs = fork (get_or bs 0 0) (get_or bs 1 0)
+entry_at Abort bs = abort (get_or bs 0 0) (get_or bs 1 0)
+entry_at Clear bs = clear (get_or bs 0 0)
 
-label-back : (l : Label) (rest : List ℕ) → FitsLabel l → label-at 0 (label-bytes l ++ rest) ≡ l
-unfolding label-at
-label-back l rest (c, p) = λ i. record { cycles = four-back (l .cycles) c i; ports = four-back (l .ports) p i }
+label_back : (l : Label) (rest : List ℕ) → FitsLabel l → label_at 0 (label_bytes l ++ rest) ≡ l
+unfolding label_at
+label_back l rest (c, p) = λ i. record { cycles = four_back l.cycles c i; ports = four_back l.ports p i }
 
-arcs-back : (arcs : List Arc) (rest : List ℕ) → Every FitsArc arcs → arcs-at (length arcs) (joined arc-bytes arcs ++ rest) ≡ arcs
-unfolding arcs-at label-at
-arcs-back [] rest fit = refl
-arcs-back (a ∷ arcs) rest ((f, t, l), fit) = λ i. record { from = a .from; to = a .to; label = label-back (a .label) (joined arc-bytes arcs ++ rest) l i } ∷ arcs-back arcs rest fit i
+arcs_back : (arcs : List Arc) (rest : List ℕ) → AllByRecursion FitsArc arcs → arcs_at (length arcs) (flat_map arc_bytes arcs ++ rest) ≡ arcs
+unfolding arcs_at label_at
+arcs_back [] rest fit = refl
+arcs_back (a ∷ arcs) rest ((f, t, l), fit) = λ i. record { from = a.from; to = a.to; label = label_back a.label (flat_map arc_bytes arcs ++ rest) l i } ∷ arcs_back arcs rest fit i
 
-entry-back : (e : Entry) (rest : List ℕ) → Fits e → entry-at (kind e) (body e ++ rest) ≡ e
-unfolding entry-at label-at
-entry-back (node s l) rest (h, (f, fit)) = ap (node s) (label-back l rest fit)
-entry-back (pause s l) rest (h, (f, fit)) = ap (pause s) (label-back l rest fit)
-entry-back (table s arcs) rest (h, (f, fit)) =
-    ap (λ (n : ℕ). table s (arcs-at n (joined arc-bytes arcs ++ rest))) (two-back (length arcs) (omega arith))
-    ∙ ap (table s) (arcs-back arcs rest fit)
-entry-back (choice a b) rest fit = refl
-entry-back (sequence a b) rest fit = refl
-entry-back (repeat s) rest fit = refl
-entry-back (fork a b) rest fit = refl
-entry-back (abort a b) rest fit = refl
-entry-back (clear s) rest fit = refl
+entry_back : (e : Entry) (rest : List ℕ) → Fits e → entry_at (kind e) (body e ++ rest) ≡ e
+unfolding entry_at label_at
+entry_back (node s l) rest (h, (f, fit)) = ap (node s) (label_back l rest fit)
+entry_back (pause s l) rest (h, (f, fit)) = ap (pause s) (label_back l rest fit)
+entry_back (table s arcs) rest (h, (f, fit)) =
+    ap (λ (n : ℕ). table s (arcs_at n (flat_map arc_bytes arcs ++ rest))) (two_back (length arcs) (omega arith))
+    ∙ ap (table s) (arcs_back arcs rest fit)
+entry_back (choice a b) rest fit = refl
+entry_back (sequence a b) rest fit = refl
+entry_back (repeat s) rest fit = refl
+entry_back (fork a b) rest fit = refl
+entry_back (abort a b) rest fit = refl
+entry_back (clear s) rest fit = refl
 
-number-small : (k : Kind) → number k < 65536
-number-small Node = omega arith
-number-small Pause = omega arith
-number-small Table = omega arith
-number-small Choice = omega arith
-number-small Sequence = omega arith
-number-small Loop = omega arith
-number-small Fork = omega arith
-number-small Abort = omega arith
-number-small Clear = omega arith
+number_small : (k : Kind) → number k < 65536
+number_small Node = omega arith
+number_small Pause = omega arith
+number_small Table = omega arith
+number_small Choice = omega arith
+number_small Sequence = omega arith
+number_small Loop = omega arith
+number_small Fork = omega arith
+number_small Abort = omega arith
+number_small Clear = omega arith
 
 -- the length, the kind and the count in the bytes of an entry are its own
 module _ (e : Entry) (rest : List ℕ) (fits : Fits e) where
-  pub length-back : length-in (bytes e ++ rest) ≡ long e
-  length-back = two-back (long e) (fits .0)
+  pub length_back : length_in (bytes e ++ rest) ≡ long e
+  length_back = two_back (long e) fits.0
 
-  pub kind-in-back : kind-in (bytes e ++ rest) ≡ number (kind e)
-  kind-in-back = two-back (number (kind e)) (number-small (kind e))
+  pub kind_in_back : kind_in (bytes e ++ rest) ≡ number (kind e)
+  kind_in_back = two_back (number (kind e)) (number_small (kind e))
 
   -- the first entry and what comes after it
-  first-entry : entry-at (kind-at (kind-in (bytes e ++ rest))) (drop 4 (bytes e ++ rest)) ≡ e
-  first-entry = ap (λ (k : Kind). entry-at k (body e ++ rest)) (ap kind-at kind-in-back ∙ kind-back (kind e)) ∙ entry-back e rest fits
+  first_entry : entry_at (kind_at (kind_in (bytes e ++ rest))) (drop 4 (bytes e ++ rest)) ≡ e
+  first_entry = ap (λ (k : Kind). entry_at k (body e ++ rest)) (ap kind_at kind_in_back ∙ kind_back (kind e)) ∙ entry_back e rest fits
 
-  after-entry : drop (length-in (bytes e ++ rest)) (bytes e ++ rest) ≡ rest
-  after-entry = ap (λ (n : ℕ). drop n (bytes e ++ rest)) length-back ∙ drop-at (bytes e) rest (long e) (omega (arith, length-body e))
+  after_entry : drop (length_in (bytes e ++ rest)) (bytes e ++ rest) ≡ rest
+  after_entry = ap (λ (n : ℕ). drop n (bytes e ++ rest)) length_back ∙ drop_at (bytes e) rest (long e) (omega (arith, length_body e))
 
 -- the count in the bytes of a table is that of its arcs
-pub due-back : (e : Entry) (rest : List ℕ) → Fits e → due (kind e) (count-in (bytes e ++ rest)) ≡ long e
-due-back (node s l) rest fit = refl
-due-back (pause s l) rest fit = refl
-due-back (table s arcs) rest (h, fit) = ap (λ (n : ℕ). 7 + 10 * n) (two-back (length arcs) (omega arith))
-due-back (choice a b) rest fit = refl
-due-back (sequence a b) rest fit = refl
-due-back (repeat s) rest fit = refl
-due-back (fork a b) rest fit = refl
-due-back (abort a b) rest fit = refl
-due-back (clear s) rest fit = refl
+pub due_back : (e : Entry) (rest : List ℕ) → Fits e → due (kind e) (count_in (bytes e ++ rest)) ≡ long e
+due_back (node s l) rest fit = refl
+due_back (pause s l) rest fit = refl
+due_back (table s arcs) rest (h, fit) = ap (λ (n : ℕ). 7 + 10 * n) (two_back (length arcs) (omega arith))
+due_back (choice a b) rest fit = refl
+due_back (sequence a b) rest fit = refl
+due_back (repeat s) rest fit = refl
+due_back (fork a b) rest fit = refl
+due_back (abort a b) rest fit = refl
+due_back (clear s) rest fit = refl
 
 -- bytes spell one entry at most
-pub one-entry : (bs : List ℕ) (e f : Entry) (rest left : List ℕ) → Spells bs e rest → Spells bs f left → (e ≡ f) × (rest ≡ left)
-one-entry bs e f rest left (fits, is) (fits′, is′) = (
-  sym (first-entry e rest fits) ∙ ap (λ (l : List ℕ). entry-at (kind-at (kind-in l)) (drop 4 l)) (sym is ∙ is′) ∙ first-entry f left fits′,
-  sym (after-entry e rest fits) ∙ ap (λ (l : List ℕ). drop (length-in l) l) (sym is ∙ is′) ∙ after-entry f left fits′,
+pub one_entry : (bs : List ℕ) (e f : Entry) (rest left : List ℕ) → Spells bs e rest → Spells bs f left → (e ≡ f) × (rest ≡ left)
+one_entry bs e f rest left (fits, is) (fits', is') = (
+  sym (first_entry e rest fits) ∙ ap (λ (l : List ℕ). entry_at (kind_at (kind_in l)) (drop 4 l)) (sym is ∙ is') ∙ first_entry f left fits',
+  sym (after_entry e rest fits) ∙ ap (λ (l : List ℕ). drop (length_in l) l) (sym is ∙ is') ∙ after_entry f left fits',
 )

@@ -1,72 +1,68 @@
 -- A record's bytes from its length, its kind and its body.
-use mathlib.Core.Path.{_≡_, refl, sym, ap, subst, _∙_}
-use mathlib.Core.List.{List, _++_}
-use Prim.Native.Nat.{ℕ, _+_, _*_, _≤_, _<_}
-use native.Mathlib.Omega.{arith}
-use lib.ListN.{length, length-append, length-drop, getD, drop}
-use Rattle·std.proofs.shelf.Lists.{getD-drop, getD-append-left}
-use Rattle·program·specs.declared.fault.Fault.{Fault}
-use Rattle·program·specs.declared.fault.Fault.the-variants.{Refused, Memory}
-use Rattle·program·specs.declared.kind.Kind.{Kind}
-use Rattle·program·specs.declared.kind.Kind.the-variants.{Node, Pause, Table, Choice, Sequence, Loop, Fork, Abort, Clear}
-use Rattle·program·specs.Kinds.{number, due}
-use Rattle·program·specs.Entries.{Entry, node, pause, table, choice, sequence, repeat, fork, abort, clear}
-use Rattle·program·specs.Format.{two, kind, long, body, FitsBody, Framed, Spells, Refuses, Stops, length-in, kind-in, count-in}
-use Rattle·program·specs.Bodies.{Misfits}
-use Rattle·program·proofs.Arcs.{length-arcs}
-use Rattle·program·proofs.Numbers.{begins, two-spelled}
+use Rattle.std.proofs.Common.{◌≡◌, ℕ, ◌+◌, ◌*◌, ◌<◌, ◌≤◌, List, ◌++◌, length, get_or, drop, sym, refl, ap, ◌∙◌, subst, arith, length-append, length-drop}
+use Rattle.std.proofs.lemmas.List.{get_or-drop, get_or_append_left}
+use Rattle.program.specs.declared.fault.Fault.{Fault}
+use Rattle.program.specs.declared.fault.Fault.TheVariants.{Refused, Memory}
+use Rattle.program.specs.declared.kind.Kind.{Kind}
+use Rattle.program.specs.declared.kind.Kind.TheVariants.{Node, Pause, Table, Choice, Sequence, Loop, Fork, Abort, Clear}
+use Rattle.program.specs.Kinds.{number, due}
+use Rattle.program.specs.Entries.{Entry, node, pause, table, choice, sequence, repeat, fork, abort, clear}
+use Rattle.program.specs.Format.{two, kind, long, body, FitsBody, Framed, Spells, Refuses, Stops, length_in, kind_in, count_in}
+use Rattle.program.specs.Bodies.{Misfits}
+use Rattle.program.proofs.Arcs.{length_arcs}
+use Rattle.program.proofs.Numbers.{begins, two_spelled}
 
 -- a record is four bytes longer than its body
-pub length-body : (e : Entry) → 4 + length (body e) ≡ long e
-length-body (node s l) = refl
-length-body (pause s l) = refl
-length-body (table s arcs) = omega (arith, length-arcs arcs)
-length-body (choice a b) = refl
-length-body (sequence a b) = refl
-length-body (repeat s) = refl
-length-body (fork a b) = refl
-length-body (abort a b) = refl
-length-body (clear s) = refl
+pub length_body : (e : Entry) → 4 + length (body e) ≡ long e
+length_body (node s l) = refl
+length_body (pause s l) = refl
+length_body (table s arcs) = omega (arith, length_arcs arcs)
+length_body (choice a b) = refl
+length_body (sequence a b) = refl
+length_body (repeat s) = refl
+length_body (fork a b) = refl
+length_body (abort a b) = refl
+length_body (clear s) = refl
 
 -- four bytes of all, then bs and the rest; and the length is that of bs with the four
 pub record Parted (all bs rest : List ℕ) : Type 0 where
   pub room : 4 ≤ length all
   pub split : drop 4 all ≡ bs ++ rest
-  pub long-is : length-in all ≡ 4 + length bs
+  pub long_is : length_in all ≡ 4 + length bs
 
 module _ {all bs rest : List ℕ} (parts : Parted all bs rest) where
   framed : Framed all
   framed =
-      let size = sym (length-drop 4 all) ∙ ap length (parts .split) ∙ length-append bs rest in
-      (parts .room, omega (arith, parts .long-is), omega (arith, parts .long-is))
+      let size = sym (length-drop 4 all) ∙ ap length parts.split ∙ length-append bs rest in
+      (parts.room, omega (arith, parts.long_is), omega (arith, parts.long_is))
 
-  pub spelled : ((i : ℕ) → getD all i 0 < 256) → (e : Entry) (k : Kind) → kind-in all ≡ number k → kind e ≡ k → FitsBody e → bs ≡ body e → Spells all e rest
+  pub spelled : ((i : ℕ) → get_or all i 0 < 256) → (e : Entry) (k : Kind) → kind_in all ≡ number k → kind e ≡ k → FitsBody e → bs ≡ body e → Spells all e rest
   spelled byte e k known same fits is =
-      let due-is : length-in all ≡ long e = parts .long-is ∙ ap (λ (l : List ℕ). 4 + length l) is ∙ length-body e in
-      let first = ap two (sym due-is) ∙ two-spelled _ _ (byte 0) (byte 1) in
-      let second = ap two (ap number same ∙ sym known) ∙ two-spelled _ _ (byte 2) (byte 3) in
-      let tail = parts .split ∙ ap (λ (l : List ℕ). l ++ rest) is in
-      ((omega (arith, due-is, byte 0, byte 1), fits), begins 4 all (parts .room) ∙ sym (λ i. first i ++ (second i ++ sym tail i)))
+      let due_is : length_in all ≡ long e = parts.long_is ∙ ap (λ (l : List ℕ). 4 + length l) is ∙ length_body e in
+      let first = ap two (sym due_is) ∙ two_spelled _ _ (byte 0) (byte 1) in
+      let second = ap two (ap number same ∙ sym known) ∙ two_spelled _ _ (byte 2) (byte 3) in
+      let tail = parts.split ∙ ap (λ (l : List ℕ). l ++ rest) is in
+      ((omega (arith, due_is, byte 0, byte 1), fits), begins 4 all parts.room ∙ sym (λ i. first i ++ (second i ++ sym tail i)))
 
   -- the bytes of the count are those of the body, where it has them
-  count-same : 3 ≤ length bs → count-in all ≡ getD bs 1 0 + getD bs 2 0 * 256
-  count-same three =
-      let one : (i : ℕ) → i < 3 → getD all (4 + i) 0 ≡ getD bs i 0 = λ i h. sym (getD-drop 4 all i 0) ∙ ap (λ (l : List ℕ). getD l i 0) (parts .split) ∙ getD-append-left bs rest 0 i (omega arith) in
+  count_same : 3 ≤ length bs → count_in all ≡ get_or bs 1 0 + get_or bs 2 0 * 256
+  count_same three =
+      let one : (i : ℕ) → i < 3 → get_or all (4 + i) 0 ≡ get_or bs i 0 = λ i h. sym (get_or-drop 4 all i 0) ∙ ap (λ (l : List ℕ). get_or l i 0) parts.split ∙ get_or_append_left bs rest 0 i (omega arith) in
       omega (arith, one 1 (omega arith), one 2 (omega arith))
 
-  misfit : (k : Kind) → (4 + length bs ≡ due k (getD bs 1 0 + getD bs 2 0 * 256) → ⊥) → length-in all ≡ due k (count-in all) → ⊥
-  misfit Node wrong is = wrong (sym (parts .long-is) ∙ is)
-  misfit Pause wrong is = wrong (sym (parts .long-is) ∙ is)
+  misfit : (k : Kind) → (4 + length bs ≡ due k (get_or bs 1 0 + get_or bs 2 0 * 256) → ⊥) → length_in all ≡ due k (count_in all) → ⊥
+  misfit Node wrong is = wrong (sym parts.long_is ∙ is)
+  misfit Pause wrong is = wrong (sym parts.long_is ∙ is)
   misfit Table wrong is =
-      let three : 3 ≤ length bs = omega (arith, parts .long-is) in
-      wrong (omega (arith, parts .long-is, count-same three))
-  misfit Choice wrong is = wrong (sym (parts .long-is) ∙ is)
-  misfit Sequence wrong is = wrong (sym (parts .long-is) ∙ is)
-  misfit Loop wrong is = wrong (sym (parts .long-is) ∙ is)
-  misfit Fork wrong is = wrong (sym (parts .long-is) ∙ is)
-  misfit Abort wrong is = wrong (sym (parts .long-is) ∙ is)
-  misfit Clear wrong is = wrong (sym (parts .long-is) ∙ is)
+      let three : 3 ≤ length bs = omega (arith, parts.long_is) in
+      wrong (omega (arith, parts.long_is, count_same three))
+  misfit Choice wrong is = wrong (sym parts.long_is ∙ is)
+  misfit Sequence wrong is = wrong (sym parts.long_is ∙ is)
+  misfit Loop wrong is = wrong (sym parts.long_is ∙ is)
+  misfit Fork wrong is = wrong (sym parts.long_is ∙ is)
+  misfit Abort wrong is = wrong (sym parts.long_is ∙ is)
+  misfit Clear wrong is = wrong (sym parts.long_is ∙ is)
 
-  pub stops : (e : Fault) (k : Kind) → kind-in all ≡ number k → Misfits e k bs → Stops e all
+  pub stops : (e : Fault) (k : Kind) → kind_in all ≡ number k → Misfits e k bs → Stops e all
   stops (Refused why) k known (is, wrong) = subst (λ w. Refuses w all) (sym is) (framed, (k, known, misfit k wrong))
   stops Memory k known m = tt

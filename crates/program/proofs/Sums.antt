@@ -1,41 +1,37 @@
 -- One turn of adding up labels: what is left gives the sum.
-use mathlib.Core.Path.{_≡_, refl, sym, ap, _∙_}
-use mathlib.Core.List.{List, [], _∷_, _++_, map}
-use Prim.Native.Nat.{ℕ, _+_, _<_, min}
-use native.Mathlib.Omega.{arith}
-use lib.ListN.{length, length-append, getD, drop}
-use Rattle·std.proofs.shelf.Lists.{at-drop-more}
-use Rattle·algebra.specs.declared.arc.Arc.{Arc}
-use Rattle·algebra.specs.declared.label.Label.{Label}
-use Rattle·algebra.specs.Model.{Model}
-use Rattle·program·specs.declared.record.Record.{Record}
-use Rattle·program·specs.Entries.{entry}
-use Rattle·program·specs.Weights.{labels, all-labels, added}
+use Rattle.std.proofs.Common.{◌≡◌, ℕ, ◌+◌, ◌<◌, min, List, [], ◌∷◌, ◌++◌, map, length, get_or, drop, sym, refl, ap, ◌∙◌, arith, length-append}
+use Rattle.std.proofs.lemmas.List.{at_drop_more}
+use Rattle.algebra.specs.declared.arc.Arc.{Arc}
+use Rattle.algebra.specs.declared.label.Label.{Label}
+use Rattle.algebra.specs.Model.{Model}
+use Rattle.program.specs.declared.record.Record.{Record}
+use Rattle.program.specs.Entries.{entry}
+use Rattle.program.specs.Weights.{labels, all_labels, added}
 
-abbrev pub arc-labels : List Arc → List Label
-arc-labels arcs = map (λ a. a .label) arcs
+abbrev pub arc_labels : List Arc → List Label
+arc_labels arcs = map (λ a. a.label) arcs
 
 -- the labels left at a record are its own and those of the records after it
-labels-more : (rs : List Record) (i : ℕ) (r : Record) → i < length rs → r ≡ getD rs i r → all-labels (drop i rs) ≡ labels (entry r) ++ all-labels (drop (i + 1) rs)
-labels-more rs i r h is = at-drop-more all-labels rs i r h ∙ ap (λ (x : Record). labels (entry x) ++ all-labels (drop (i + 1) rs)) (sym is)
+labels_more : (rs : List Record) (i : ℕ) (r : Record) → i < length rs → r ≡ get_or rs i r → all_labels (drop i rs) ≡ labels (entry r) ++ all_labels (drop (i + 1) rs)
+labels_more rs i r h is = at_drop_more all_labels rs i r h ∙ ap (λ (x : Record). labels (entry x) ++ all_labels (drop (i + 1) rs)) (sym is)
 
 module _ (m : Model) where
-  added-append : (x : m .Carrier) (ls ks : List Label) → added m x (ls ++ ks) ≡ added m (added m x ls) ks
-  added-append x [] ks = refl
-  added-append x (l ∷ ls) ks = added-append (m .add x (m .weigh l)) ls ks
+  added_append : (x : m.Carrier) (ls ks : List Label) → added m x (ls ++ ks) ≡ added m (added m x ls) ks
+  added_append x [] ks = refl
+  added_append x (l ∷ ls) ks = added_append (m.add x (m.weigh l)) ls ks
 
-  pub arcs-next : (x y w : m .Carrier) (arcs : List Arc) (i : ℕ) (d : Arc) → i < length arcs → y ≡ m .add x w → w ≡ m .weigh ((getD arcs i d) .label) → added m y (arc-labels (drop (i + 1) arcs)) ≡ added m x (arc-labels (drop i arcs))
-  arcs-next x y w arcs i d h p q =
-      ap (λ (z : m .Carrier). added m z (arc-labels (drop (i + 1) arcs))) (p ∙ ap (m .add x) q)
-      ∙ sym (at-drop-more (λ (l : List Arc). added m x (arc-labels l)) arcs i d h)
+  pub arcs_next : (x y w : m.Carrier) (arcs : List Arc) (i : ℕ) (d : Arc) → i < length arcs → y ≡ m.add x w → w ≡ m.weigh (get_or arcs i d).label → added m y (arc_labels (drop (i + 1) arcs)) ≡ added m x (arc_labels (drop i arcs))
+  arcs_next x y w arcs i d h p q =
+      ap (λ (z : m.Carrier). added m z (arc_labels (drop (i + 1) arcs))) (p ∙ ap (m.add x) q)
+      ∙ sym (at_drop_more (λ (l : List Arc). added m x (arc_labels l)) arcs i d h)
 
-  pub records-next : (x y : m .Carrier) (rs : List Record) (i : ℕ) (r : Record) → i < length rs → r ≡ getD rs i r → y ≡ added m x (labels (entry r)) → added m y (all-labels (drop (i + 1) rs)) ≡ added m x (all-labels (drop i rs))
-  records-next x y rs i r h is p =
-      ap (λ (z : m .Carrier). added m z (all-labels (drop (i + 1) rs))) p
-      ∙ sym (added-append x (labels (entry r)) (all-labels (drop (i + 1) rs)))
-      ∙ ap (added m x) (sym (labels-more rs i r h is))
+  pub records_next : (x y : m.Carrier) (rs : List Record) (i : ℕ) (r : Record) → i < length rs → r ≡ get_or rs i r → y ≡ added m x (labels (entry r)) → added m y (all_labels (drop (i + 1) rs)) ≡ added m x (all_labels (drop i rs))
+  records_next x y rs i r h is p =
+      ap (λ (z : m.Carrier). added m z (all_labels (drop (i + 1) rs))) p
+      ∙ sym (added_append x (labels (entry r)) (all_labels (drop (i + 1) rs)))
+      ∙ ap (added m x) (sym (labels_more rs i r h is))
 
-pub count-next : (x y top : ℕ) (rs : List Record) (i : ℕ) (r : Record) → i < length rs → r ≡ getD rs i r → y ≡ min (x + length (labels (entry r))) top → min (y + length (all-labels (drop (i + 1) rs))) top ≡ min (x + length (all-labels (drop i rs))) top
-count-next x y top rs i r h is p =
-    let more = ap length (labels-more rs i r h is) ∙ length-append (labels (entry r)) (all-labels (drop (i + 1) rs)) in
+pub count_next : (x y top : ℕ) (rs : List Record) (i : ℕ) (r : Record) → i < length rs → r ≡ get_or rs i r → y ≡ min (x + length (labels (entry r))) top → min (y + length (all_labels (drop (i + 1) rs))) top ≡ min (x + length (all_labels (drop i rs))) top
+count_next x y top rs i r h is p =
+    let more = ap length (labels_more rs i r h is) ∙ length-append (labels (entry r)) (all_labels (drop (i + 1) rs)) in
     omega arith

@@ -1,16 +1,11 @@
 -- What one turn of reading a file keeps.
-use mathlib.Core.Path.{_≡_, sym, ap, subst, _∙_}
-use mathlib.Core.List.{List, [], _∷_, _++_, map, map-append, append-assoc, append-nil}
-use Prim.Native.Nat.{ℕ, _≤_, _<_}
-use native.Mathlib.Omega.{arith}
-use lib.ListN.{length, length-append}
-use Rattle·std.specs.declared.option.Option.{Option}
-use Rattle·std.specs.declared.option.Option.the-variants.{None, Some}
-use Rattle·program·specs.declared.record.Record.{Record}
-use Rattle·program·specs.declared.refusal.Refusal.{Refusal}
-use Rattle·program·specs.Entries.{Entry, entry}
-use Rattle·program·specs.Files.{Listed, ended, stopped, next, Holds}
-use Rattle·program·specs.Format.{Spells, Refuses, body}
+use Rattle.std.proofs.Common.{◌≡◌, ℕ, ◌<◌, ◌≤◌, List, [], ◌∷◌, ◌++◌, map, length, Some, None, Option, sym, ap, ◌∙◌, subst, append_assoc, append-nil, arith, length-append}
+use mathlib.Core.List.{map-append}
+use Rattle.program.specs.declared.record.Record.{Record}
+use Rattle.program.specs.declared.refusal.Refusal.{Refusal}
+use Rattle.program.specs.Entries.{Entry, entry}
+use Rattle.program.specs.Files.{Listed, ended, stopped, next, Holds}
+use Rattle.program.specs.Format.{Spells, Refuses, body}
 
 -- whatever is read from the bytes left comes after what was read
 pub record Sofar (all : List ℕ) (records : List Record) (left : List ℕ) : Type 0 where
@@ -20,25 +15,25 @@ pub record Sofar (all : List ℕ) (records : List Record) (left : List ℕ) : Ty
 pub start : (all : List ℕ) → length all ≤ 32768 → Sofar all [] all
 start all small = record { small = small; before = λ es why l. l }
 
-pub one-more : {all left rest : List ℕ} (records : List Record) (r : Record) → Sofar all records left → Spells left (entry r) rest → Sofar all (records ++ r ∷ []) rest
-one-more {all} records r s is = record {
-  small = s .small;
+pub one_more : {all left rest : List ℕ} (records : List Record) (r : Record) → Sofar all records left → Spells left (entry r) rest → Sofar all (records ++ r ∷ []) rest
+one_more {all} records r s is = record {
+  small = s.small;
   before = λ es why l. subst (λ (x : List Entry). Listed all x why)
-      (sym (ap (λ (x : List Entry). x ++ es) (map-append entry records (r ∷ [])) ∙ append-assoc (map entry records) (entry r ∷ []) es))
-      (s .before (entry r ∷ es) why (next is l));
+      (sym (ap (λ (x : List Entry). x ++ es) (map-append entry records (r ∷ [])) ∙ append_assoc (map entry records) (entry r ∷ []) es))
+      (s.before (entry r ∷ es) why (next is l));
 }
 
 finish : {all left : List ℕ} (records : List Record) (why : Option Refusal) → Sofar all records left → Listed left [] why → Holds all (map entry records) why
 finish {all} records why s l = record {
-  within = λ h. subst (λ (x : List Entry). Listed all x why) (append-nil (map entry records)) (s .before [] why l);
-  large = λ h. absurd (omega (arith, s .small));
+  within = λ h. subst (λ (x : List Entry). Listed all x why) (append-nil (map entry records)) (s.before [] why l);
+  large = λ h. absurd (omega (arith, s.small));
 }
 
 pub done : {all left : List ℕ} (records : List Record) → Sofar all records left → left ≡ [] → Holds all (map entry records) None
 done records s none = finish records None s (subst (λ (x : List ℕ). Listed x [] None) (sym none) ended)
 
 pub refuse : {all left : List ℕ} (records : List Record) (why : Refusal) → Sofar all records left → 0 < length left → Refuses why left → Holds all (map entry records) (Some why)
-refuse records why s some no-record = finish records (Some why) s (stopped some no-record)
+refuse records why s some no_record = finish records (Some why) s (stopped some no_record)
 
 pub shorter : (bs rest : List ℕ) (e : Entry) → Spells bs e rest → length rest < length bs
-shorter bs rest e is = omega (arith, ap length (is .1), length-append (body e) rest)
+shorter bs rest e is = omega (arith, ap length is.1, length-append (body e) rest)

@@ -1,11 +1,9 @@
 -- What a record says.
-use Prim.Native.Nat.{ℕ}
-use mathlib.Core.List.{List}
-use Rattle·std.specs.Of.Vec.{vec-items}
-use Rattle·algebra.specs.declared.arc.Arc.{Arc}
-use Rattle·algebra.specs.declared.label.Label.{Label}
-use Rattle·program·specs.declared.record.Record.{Record}
-use Rattle·program·specs.declared.record.Record.the-variants.{Node, Pause, Table, Choice, Sequence, Loop, Fork, Abort, Clear}
+use Rattle.std.specs.Prelude.{ℕ, List, vec_items}
+use Rattle.algebra.specs.declared.arc.Arc.{Arc}
+use Rattle.algebra.specs.declared.label.Label.{Label}
+use Rattle.program.specs.declared.record.Record.{Record}
+use Rattle.program.specs.declared.record.Record.TheVariants.{Node, Pause, Table, Choice, Sequence, Loop, Fork, Abort, Clear}
 
 -- the cases of a record, with the list of arcs for a table's vector
 pub data Entry : Type 0 where
@@ -23,7 +21,7 @@ pub data Entry : Type 0 where
 abbrev pub entry : Record → Entry
 entry (Node shelf label) = node shelf label
 entry (Pause shelf label) = pause shelf label
-entry (Table shelf arcs) = table shelf (vec-items arcs)
+entry (Table shelf arcs) = table shelf (vec_items arcs)
 entry (Choice first second) = choice first second
 entry (Sequence first second) = sequence first second
 entry (Loop shelf) = repeat shelf

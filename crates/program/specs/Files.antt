@@ -1,14 +1,9 @@
 -- What a whole file holds.
-use mathlib.Core.Path.{_≡_}
-use mathlib.Core.List.{List, [], _∷_}
-use Prim.Native.Nat.{ℕ, _≤_, _<_}
-use lib.ListN.{length}
-use Rattle·std.specs.declared.option.Option.{Option}
-use Rattle·std.specs.declared.option.Option.the-variants.{None, Some}
-use Rattle·program·specs.declared.refusal.Refusal.{Refusal}
-use Rattle·program·specs.declared.refusal.Refusal.the-variants.{Large}
-use Rattle·program·specs.Entries.{Entry}
-use Rattle·program·specs.Format.{Spells, Refuses}
+use Rattle.std.specs.Prelude.{◌≡◌, ℕ, ◌<◌, ◌≤◌, List, [], ◌∷◌, length, Some, None, Option}
+use Rattle.program.specs.declared.refusal.Refusal.{Refusal}
+use Rattle.program.specs.declared.refusal.Refusal.TheVariants.{Large}
+use Rattle.program.specs.Entries.{Entry}
+use Rattle.program.specs.Format.{Spells, Refuses}
 
 -- bytes with the entries that they spell one after another, up to the end or to the first refusal
 pub data Listed : List ℕ → List Entry → Option Refusal → Type 0 where

@@ -1,22 +1,18 @@
 -- The bytes of a record, and which bytes the questions of a record refuse.
-use mathlib.Core.Path.{_≡_}
-use mathlib.Core.List.{List, [], _∷_, _++_}
-use Prim.Native.Nat.{ℕ, _+_, _*_, _/_, _%_, _^_, _≤_, _<_}
-use lib.ListN.{length, getD}
-use Rattle·std.specs.Joined.{joined}
-use Rattle·std.specs.Vec.{Every}
-use Rattle·algebra.specs.declared.arc.Arc.{Arc}
-use Rattle·algebra.specs.declared.label.Label.{Label}
-use Rattle·program·specs.declared.fault.Fault.{Fault}
-use Rattle·program·specs.declared.fault.Fault.the-variants.{Refused, Memory}
-use Rattle·program·specs.declared.kind.Kind as kinds
-use Rattle·program·specs.declared.kind.Kind.{Kind}
-use Rattle·program·specs.declared.refusal.Refusal.{Refusal}
-use Rattle·program·specs.declared.refusal.Refusal.the-variants.{Large, Cut, Unknown, Misfit}
-use Rattle·program·specs.declared.unwritten.Unwritten.{Unwritten}
-use Rattle·program·specs.declared.unwritten.Unwritten.the-variants as unwritten
-use Rattle·program·specs.Kinds.{number, due}
-use Rattle·program·specs.Entries.{Entry, node, pause, table, choice, sequence, repeat, fork, abort, clear}
+use Rattle.std.specs.Prelude.{◌≡◌, ℕ, ◌+◌, ◌*◌, ◌/◌, ◌%◌, ◌^◌, ◌<◌, ◌≤◌, List, [], ◌∷◌, ◌++◌, length, ◌≢◌, slice_index}
+use Rattle.std.specs.List.{flat_map, AllByRecursion}
+use Rattle.algebra.specs.declared.arc.Arc.{Arc}
+use Rattle.algebra.specs.declared.label.Label.{Label}
+use Rattle.program.specs.declared.fault.Fault.{Fault}
+use Rattle.program.specs.declared.fault.Fault.TheVariants.{Refused, Memory}
+use Rattle.program.specs.declared.kind.Kind as kinds
+use Rattle.program.specs.declared.kind.Kind.{Kind}
+use Rattle.program.specs.declared.refusal.Refusal.{Refusal}
+use Rattle.program.specs.declared.refusal.Refusal.TheVariants.{Large, Cut, Unknown, Misfit}
+use Rattle.program.specs.declared.unwritten.Unwritten.{Unwritten}
+use Rattle.program.specs.declared.unwritten.Unwritten.TheVariants as unwritten
+use Rattle.program.specs.Kinds.{number, due}
+use Rattle.program.specs.Entries.{Entry, node, pause, table, choice, sequence, repeat, fork, abort, clear}
 
 -- a number in two bytes and in four, the lowest first
 abbrev pub two : ℕ → List ℕ
@@ -26,46 +22,46 @@ abbrev pub four : ℕ → List ℕ
 four n = n % 256 ∷ n / 256 % 256 ∷ n / 65536 % 256 ∷ n / 16777216 % 256 ∷ []
 
 -- a label: its cycles, then its ports
-abbrev pub label-bytes : Label → List ℕ
-label-bytes l = four (l .cycles) ++ four (l .ports)
+abbrev pub label_bytes : Label → List ℕ
+label_bytes l = four l.cycles ++ four l.ports
 
 -- an arc: from, to, and its label
-abbrev pub arc-bytes : Arc → List ℕ
-arc-bytes a = a .from ∷ a .to ∷ label-bytes (a .label)
+abbrev pub arc_bytes : Arc → List ℕ
+arc_bytes a = a.from ∷ a.to ∷ label_bytes a.label
 
 -- the kind of an entry
 abbrev pub kind : Entry → Kind
-kind (node s l) = kinds.the-variants.Node
-kind (pause s l) = kinds.the-variants.Pause
-kind (table s arcs) = kinds.the-variants.Table
-kind (choice a b) = kinds.the-variants.Choice
-kind (sequence a b) = kinds.the-variants.Sequence
-kind (repeat s) = kinds.the-variants.Loop
-kind (fork a b) = kinds.the-variants.Fork
-kind (abort a b) = kinds.the-variants.Abort
-kind (clear s) = kinds.the-variants.Clear
+kind (node s l) = kinds.TheVariants.Node
+kind (pause s l) = kinds.TheVariants.Pause
+kind (table s arcs) = kinds.TheVariants.Table
+kind (choice a b) = kinds.TheVariants.Choice
+kind (sequence a b) = kinds.TheVariants.Sequence
+kind (repeat s) = kinds.TheVariants.Loop
+kind (fork a b) = kinds.TheVariants.Fork
+kind (abort a b) = kinds.TheVariants.Abort
+kind (clear s) = kinds.TheVariants.Clear
 
 -- the arcs of an entry
-abbrev pub arcs-of : Entry → List Arc
-arcs-of (node s l) = []
-arcs-of (pause s l) = []
-arcs-of (table s arcs) = arcs
-arcs-of (choice a b) = []
-arcs-of (sequence a b) = []
-arcs-of (repeat s) = []
-arcs-of (fork a b) = []
-arcs-of (abort a b) = []
-arcs-of (clear s) = []
+abbrev pub arcs_of : Entry → List Arc
+arcs_of (node s l) = []
+arcs_of (pause s l) = []
+arcs_of (table s arcs) = arcs
+arcs_of (choice a b) = []
+arcs_of (sequence a b) = []
+arcs_of (repeat s) = []
+arcs_of (fork a b) = []
+arcs_of (abort a b) = []
+arcs_of (clear s) = []
 
 -- the length of the whole record
 abbrev pub long : Entry → ℕ
-long e = due (kind e) (length (arcs-of e))
+long e = due (kind e) (length (arcs_of e))
 
 -- what stands after the length and the kind
 abbrev pub body : Entry → List ℕ
-body (node s l) = s ∷ label-bytes l
-body (pause s l) = s ∷ label-bytes l
-body (table s arcs) = s ∷ two (length arcs) ++ joined arc-bytes arcs
+body (node s l) = s ∷ label_bytes l
+body (pause s l) = s ∷ label_bytes l
+body (table s arcs) = s ∷ two (length arcs) ++ flat_map arc_bytes arcs
 body (choice a b) = a ∷ b ∷ []
 body (sequence a b) = a ∷ b ∷ []
 body (repeat s) = s ∷ []
@@ -79,15 +75,15 @@ bytes e = two (long e) ++ two (number (kind e)) ++ body e
 
 -- each number is one that its bytes can hold
 abbrev pub FitsLabel : Label → Type 0
-FitsLabel l = (l .cycles < 2 ^ 32) × (l .ports < 2 ^ 32)
+FitsLabel l = (l.cycles < 2 ^ 32) × (l.ports < 2 ^ 32)
 
 abbrev pub FitsArc : Arc → Type 0
-FitsArc a = (a .from < 256) × (a .to < 256) × FitsLabel (a .label)
+FitsArc a = (a.from < 256) × (a.to < 256) × FitsLabel a.label
 
 abbrev pub FitsBody : Entry → Type 0
 FitsBody (node s l) = (s < 256) × FitsLabel l
 FitsBody (pause s l) = (s < 256) × FitsLabel l
-FitsBody (table s arcs) = (s < 256) × Every FitsArc arcs
+FitsBody (table s arcs) = (s < 256) × AllByRecursion FitsArc arcs
 FitsBody (choice a b) = (a < 256) × (b < 256)
 FitsBody (sequence a b) = (a < 256) × (b < 256)
 FitsBody (repeat s) = s < 256
@@ -104,25 +100,25 @@ abbrev pub Spells : List ℕ → Entry → List ℕ → Type 0
 Spells bs e rest = Fits e × (bs ≡ bytes e ++ rest)
 
 -- the length that the first two bytes give, the number of the kind in the next two, and the count of arcs of a table
-abbrev pub length-in : List ℕ → ℕ
-length-in bs = getD bs 0 0 + getD bs 1 0 * 256
+abbrev pub length_in : List ℕ → ℕ
+length_in bs = slice_index bs 0 + slice_index bs 1 * 256
 
-abbrev pub kind-in : List ℕ → ℕ
-kind-in bs = getD bs 2 0 + getD bs 3 0 * 256
+abbrev pub kind_in : List ℕ → ℕ
+kind_in bs = slice_index bs 2 + slice_index bs 3 * 256
 
-abbrev pub count-in : List ℕ → ℕ
-count-in bs = getD bs 5 0 + getD bs 6 0 * 256
+abbrev pub count_in : List ℕ → ℕ
+count_in bs = slice_index bs 5 + slice_index bs 6 * 256
 
 -- four bytes are left, and the length is between 4 and the bytes left
 abbrev pub Framed : List ℕ → Type 0
-Framed bs = (4 ≤ length bs) × (4 ≤ length-in bs) × (length-in bs ≤ length bs)
+Framed bs = (4 ≤ length bs) × (4 ≤ length_in bs) × (length_in bs ≤ length bs)
 
 -- the first question of a record that these bytes answer no; the size of the file is no question of a record
 abbrev pub Refuses : Refusal → List ℕ → Type 0
 Refuses Large bs = ⊥
 Refuses Cut bs = Framed bs → ⊥
-Refuses Unknown bs = Framed bs × ((k : Kind) → kind-in bs ≡ number k → ⊥)
-Refuses Misfit bs = Framed bs × ((k : Kind) × (kind-in bs ≡ number k) × (length-in bs ≡ due k (count-in bs) → ⊥))
+Refuses Unknown bs = Framed bs × ((k : Kind) → kind_in bs ≢ number k)
+Refuses Misfit bs = Framed bs × ((k : Kind) × (kind_in bs ≡ number k) × (length_in bs ≢ due k (count_in bs)))
 
 -- why no record is read from these bytes: they are refused, or there is no memory for it
 abbrev pub Stops : Fault → List ℕ → Type 0

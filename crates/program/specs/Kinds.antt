@@ -1,7 +1,7 @@
 -- The kinds of records by number, and how long a record of each kind is.
-use Prim.Native.Nat.{ℕ, _+_, _*_}
-use Rattle·program·specs.declared.kind.Kind.{Kind}
-use Rattle·program·specs.declared.kind.Kind.the-variants.{Node, Pause, Table, Choice, Sequence, Loop, Fork, Abort, Clear}
+use Rattle.std.specs.Prelude.{ℕ, ◌+◌, ◌*◌}
+use Rattle.program.specs.declared.kind.Kind.{Kind}
+use Rattle.program.specs.declared.kind.Kind.TheVariants.{Node, Pause, Table, Choice, Sequence, Loop, Fork, Abort, Clear}
 
 -- the number that a file has for a kind
 abbrev pub number : Kind → ℕ

@@ -1,7 +1,7 @@
 -- The questions of the file by number.
-use Prim.Native.Nat.{ℕ}
-use Rattle·program·specs.declared.refusal.Refusal.{Refusal}
-use Rattle·program·specs.declared.refusal.Refusal.the-variants.{Large, Cut, Unknown, Misfit}
+use Rattle.std.specs.Prelude.{ℕ}
+use Rattle.program.specs.declared.refusal.Refusal.{Refusal}
+use Rattle.program.specs.declared.refusal.Refusal.TheVariants.{Large, Cut, Unknown, Misfit}
 
 -- the number of the question that is answered no
 abbrev pub number : Refusal → ℕ

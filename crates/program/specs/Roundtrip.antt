@@ -1,16 +1,10 @@
 -- Bytes have one reading, and reading and writing undo each other.
-use mathlib.Core.Path.{_≡_}
-use mathlib.Core.List.{List, _++_}
-use Prim.Native.Nat.{ℕ}
-use lib.ListN.{length}
-use Rattle·std.specs.declared.option.Option.{Option}
-use Rattle·std.specs.declared.option.Option.the-variants.{None}
-use Rattle·std.specs.Joined.{joined}
-use Rattle·std.specs.Vec.{Every}
-use Rattle·program·specs.declared.refusal.Refusal.{Refusal}
-use Rattle·program·specs.Entries.{Entry}
-use Rattle·program·specs.Files.{Listed}
-use Rattle·program·specs.Format.{long, bytes, Fits, Spells, Refuses}
+use Rattle.std.specs.Prelude.{◌≡◌, ℕ, List, ◌++◌, length, None, Option}
+use Rattle.std.specs.List.{flat_map, AllByRecursion}
+use Rattle.program.specs.declared.refusal.Refusal.{Refusal}
+use Rattle.program.specs.Entries.{Entry}
+use Rattle.program.specs.Files.{Listed}
+use Rattle.program.specs.Format.{long, bytes, Fits, Spells, Refuses}
 
 -- no bytes have two readings: one entry with one rest, or one refusal
 pub record OneReading : Type 0 where
@@ -28,5 +22,5 @@ pub record RoundTrip : Type 0 where
 -- the same of whole files
 pub record FileRoundTrip : Type 0 where
   pub one : (bs : List ℕ) (es fs : List Entry) (why other : Option Refusal) → Listed bs es why → Listed bs fs other → (es ≡ fs) × (why ≡ other)
-  pub back : (es : List Entry) → Every Fits es → Listed (joined bytes es) es None
-  pub again : (bs : List ℕ) (es : List Entry) → Listed bs es None → bs ≡ joined bytes es
+  pub back : (es : List Entry) → AllByRecursion Fits es → Listed (flat_map bytes es) es None
+  pub again : (bs : List ℕ) (es : List Entry) → Listed bs es None → bs ≡ flat_map bytes es

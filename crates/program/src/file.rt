@@ -1,15 +1,13 @@
 // Reads a whole file: its records up to the end, or up to the first one that is refused.
-ghost use mathlib.Core.List.{map};
-ghost use Rattle·std.specs.Of.Vec.{vec-items};
-ghost use Rattle·std.specs.Vec.{made};
-ghost use Rattle·program·specs.Entries.{entry};
-ghost use Rattle·program·specs.Files.{Holds};
+ghost use Rattle.std.specs.Prelude.{map, IfOk};
+ghost use Rattle.program.specs.Entries.{entry};
+ghost use Rattle.program.specs.Files.{Holds};
+
 use crate::fault::Fault;
 use crate::read::read;
 use crate::record::Record;
 use crate::refusal::Refusal;
-use std::alloc::AllocError;
-use std::alloc::Global;
+use std::alloc::{AllocError, Global};
 
 // The most bytes that a file may have.
 pub const MOST_BYTES: usize = 32_768;
@@ -22,7 +20,7 @@ pub struct Listing {
 }
 
 pub fn list(heap: Global, bytes: &[u8]) -> Result<Listing, AllocError>
-    ensures { λ r. ⌜ made r (λ l. Holds (now (bytes .entry)) (map entry (vec-items (l .records))) (l .refusal)) ⌝ }
+    ensures { IfOk result (λ l. Holds bytes.now (map entry l.records.items) l.refusal) }
 {
     let mut records = Vec::new(heap);
     if bytes.len() > MOST_BYTES {

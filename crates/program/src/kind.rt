@@ -1,7 +1,6 @@
 // The kinds of records, with the numbers that a file has for them.
-ghost use mathlib.Core.Path.{_≡_};
-ghost use Rattle·std.specs.Options.{Cases};
-ghost use Rattle·program·specs.Kinds.{number as number-of};
+ghost use Rattle.std.specs.Prelude.{◌≡◌, MatchOption, ◌≢◌};
+ghost use Rattle.program.specs.Kinds.{number as number_of};
 
 #[derive(Clone, Copy, PartialEq, Eq, Debug)]
 pub enum Kind {
@@ -18,7 +17,7 @@ pub enum Kind {
 
 impl Kind {
     pub fn number(self) -> u16
-        ensures { λ r. ⌜ r ≡ number-of self ⌝ }
+        ensures { result ≡ number_of self }
     {
         match self {
             Kind::Node => 1,
@@ -35,7 +34,7 @@ impl Kind {
 
     // The kind of that number, if there is one.
     pub fn of(number: u16) -> Option<Kind>
-        ensures { λ r. ⌜ Cases r ((k : Kind) → number ≡ number-of k → ⊥) (λ k. number ≡ number-of k) ⌝ }
+        ensures { MatchOption result ((k : Kind) → number ≢ number_of k) (λ k. number ≡ number_of k) }
     {
         match number {
             1 => Some(Kind::Node),

@@ -1,4 +1,6 @@
 // The program file: records of a build, read and written.
+#![tactic(auto)]
+
 mod bodies;
 pub mod fault;
 pub mod file;

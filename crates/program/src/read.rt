@@ -1,15 +1,11 @@
 // Reads one record from the first bytes of a file, or of what is left of one.
-ghost use mathlib.Core.Path.{_≡_};
-ghost use Rattle·std.specs.Results.{Cases};
-ghost use Rattle·program·specs.Bodies.{Misfits};
-ghost use Rattle·program·specs.Entries.{entry};
-ghost use Rattle·program·specs.Format.{kind as kind-of, body as body-of, FitsBody, Spells, Stops};
-use crate::bodies::shelf;
-use crate::bodies::shelves;
-use crate::bodies::step;
-use crate::bodies::table;
+ghost use Rattle.std.specs.Prelude.{◌≡◌, MatchResult};
+ghost use Rattle.program.specs.Bodies.{Misfits};
+ghost use Rattle.program.specs.Entries.{entry};
+ghost use Rattle.program.specs.Format.{kind as kind_of, body as body_of, FitsBody, Spells, Stops};
+
+use crate::bodies::{shelf, shelves, step, table};
 use crate::fault::Fault;
-use crate::fault::FaultFromRefusal;
 use crate::kind::Kind;
 use crate::record::Record;
 use crate::refusal::Refusal;
@@ -17,7 +13,7 @@ use std::alloc::Global;
 
 // The record of a kind with this body.
 fn record(heap: Global, kind: Kind, body: &[u8]) -> Result<Record, Fault>
-    ensures { λ r. ⌜ Cases r (λ x. (kind-of (entry x) ≡ kind) × FitsBody (entry x) × (now (body .entry) ≡ body-of (entry x))) (λ e. Misfits e kind (now (body .entry))) ⌝ }
+    ensures { MatchResult result (λ x. (kind_of (entry x) ≡ kind) × FitsBody (entry x) × (body.now ≡ body_of (entry x))) (λ e. Misfits e kind body.now) }
 {
     match kind {
         Kind::Node => {
@@ -61,7 +57,7 @@ fn record(heap: Global, kind: Kind, body: &[u8]) -> Result<Record, Fault>
 
 // The record in the first bytes, with the bytes after it; or the first question of a record that the bytes answer no.
 pub fn read(heap: Global, bytes: &[u8]) -> Result<(Record, &[u8]), Fault>
-    ensures { λ r. ⌜ Cases r (λ x. Spells (now (bytes .entry)) (entry (x .0)) (now (x .1))) (λ e. Stops e (now (bytes .entry))) ⌝ }
+    ensures { MatchResult result (λ x. Spells bytes.now (entry x.0) x.1.now) (λ e. Stops e bytes.now) }
 {
     let [l0, l1, k0, k1, rest @ ..] = bytes else {
         return Err(Fault::Refused(Refusal::Cut));

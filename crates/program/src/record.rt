@@ -1,9 +1,8 @@
 // A record: one step of a build.
-ghost use mathlib.Core.Path.{_≡_};
-ghost use Prim.Native.Nat.{_≤_};
-ghost use Rattle·std.specs.Options.{Cases};
-ghost use Rattle·program·specs.Entries.{entry};
-ghost use Rattle·program·specs.Format.{kind as kind-of, long};
+ghost use Rattle.std.specs.Prelude.{◌≡◌, ◌≤◌, MatchOption};
+ghost use Rattle.program.specs.Entries.{entry};
+ghost use Rattle.program.specs.Format.{kind as kind_of, long};
+
 use crate::kind::Kind;
 use algebra::arc::Arc;
 use algebra::label::Label;
@@ -26,7 +25,7 @@ pub enum Record {
 
 impl Record {
     pub fn kind(&self) -> Kind
-        ensures { λ r. ⌜ r ≡ kind-of (entry (now (self .entry))) ⌝ }
+        ensures { result ≡ kind_of (entry self.now) }
     {
         match self {
             Record::Node { .. } => Kind::Node,
@@ -43,7 +42,7 @@ impl Record {
 
     // The length of the whole record in a file, where two bytes hold it.
     pub fn length(&self) -> Option<u16>
-        ensures { λ r. ⌜ Cases r (65536 ≤ long (entry (now (self .entry)))) (λ n. n ≡ long (entry (now (self .entry)))) ⌝ }
+        ensures { MatchOption result (65536 ≤ long (entry self.now)) (λ n. n ≡ long (entry self.now)) }
     {
         match self {
             Record::Node { .. } | Record::Pause { .. } => Some(13),

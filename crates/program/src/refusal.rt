@@ -1,6 +1,6 @@
 // Why a file is refused: the question of the file that is answered no.
-ghost use mathlib.Core.Path.{_≡_};
-ghost use Rattle·program·specs.Refusals.{number as number-of};
+ghost use Rattle.std.specs.Prelude.{◌≡◌};
+ghost use Rattle.program.specs.Refusals.{number as number_of};
 
 #[derive(Clone, Copy, PartialEq, Eq, Debug)]
 pub enum Refusal {
@@ -17,7 +17,7 @@ pub enum Refusal {
 impl Refusal {
     // The number of the question.
     pub fn number(self) -> u8
-        ensures { λ r. ⌜ r ≡ number-of self ⌝ }
+        ensures { result ≡ number_of self }
     {
         match self {
             Refusal::Large => 14,

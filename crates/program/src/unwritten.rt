@@ -1,6 +1,7 @@
 // Why a record was not written: two bytes do not hold its length, or there is no memory for its bytes.
-ghost use mathlib.Core.Path.{_≡_};
-ghost use Rattle·program·specs.declared.unwritten.Unwritten.the-variants.{Memory};
+ghost use Rattle.std.specs.Prelude.{◌≡◌};
+ghost use Rattle.program.specs.declared.unwritten.Unwritten.TheVariants.{Memory};
+
 use std::alloc::AllocError;
 
 #[derive(Clone, Copy, Debug)]
@@ -9,8 +10,8 @@ pub enum Unwritten {
     Memory,
 }
 
-pub impl From<AllocError> for Unwritten as UnwrittenFromAlloc {
-    ghost converts = { λ _ r. r ≡ Memory };
+impl From<AllocError> for Unwritten {
+    ghost from_gives = { λ _ r. r ≡ Memory };
 
     fn from(_e: AllocError) -> Unwritten {
         Unwritten::Memory

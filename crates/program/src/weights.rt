@@ -1,16 +1,14 @@
 // The weights of the labels of records, added under any algebra.
-ghost use mathlib.Core.List.{map};
-ghost use mathlib.Core.Path.{_≡_};
-ghost use Prim.Native.Nat.{min};
-ghost use lib.ListN.{length};
-ghost use Rattle·program·specs.Entries.{entry};
-ghost use Rattle·program·specs.Weights.{labels, all-labels, added};
+ghost use Rattle.std.specs.Prelude.{◌≡◌, min, map, length};
+ghost use Rattle.program.specs.Entries.{entry};
+ghost use Rattle.program.specs.Weights.{labels, all_labels, added};
+
 use crate::record::Record;
 use algebra::algebra::Algebra;
 use algebra::arc::Arc;
 
 fn add_arcs<V: Algebra>(start: V, arcs: &[Arc]) -> V
-    ensures { λ r. ⌜ means r ≡ added model (means start) (map (λ a. a .label) (now (arcs .entry))) ⌝ }
+    ensures { V.means result ≡ added V.model (V.means start) (map (λ a. a.label) arcs.now) }
 {
     let mut sum = start;
     for arc in arcs {
@@ -20,7 +18,7 @@ fn add_arcs<V: Algebra>(start: V, arcs: &[Arc]) -> V
 }
 
 fn add_labels<V: Algebra>(start: V, more: &Record) -> V
-    ensures { λ r. ⌜ means r ≡ added model (means start) (labels (entry (now (more .entry)))) ⌝ }
+    ensures { V.means result ≡ added V.model (V.means start) (labels (entry more.now)) }
 {
     match more {
         Record::Node { label, .. } => start.add(V::weigh(*label)),
@@ -34,7 +32,7 @@ fn add_labels<V: Algebra>(start: V, more: &Record) -> V
 
 // The unit with the weight of every label added, in order.
 pub fn weight<V: Algebra>(records: &[Record]) -> V
-    ensures { λ r. ⌜ means r ≡ added model (model .unit) (all-labels (now (records .entry))) ⌝ }
+    ensures { V.means result ≡ added V.model V.model.unit (all_labels records.now) }
 {
     let mut sum = V::unit();
     for item in records {
@@ -44,7 +42,7 @@ pub fn weight<V: Algebra>(records: &[Record]) -> V
 }
 
 fn label_count(of: &Record) -> usize
-    ensures { λ r. ⌜ r ≡ length (labels (entry (now (of .entry)))) ⌝ }
+    ensures { result ≡ length (labels (entry of.now)) }
 {
     match of {
         Record::Node { .. } | Record::Pause { .. } => 1,
@@ -57,7 +55,7 @@ fn label_count(of: &Record) -> usize
 
 // How many labels there are, held at the largest number.
 pub fn count(records: &[Record]) -> usize
-    ensures { λ r. ⌜ r ≡ min (length (all-labels (now (records .entry)))) 18446744073709551615 ⌝ }
+    ensures { result ≡ min (length (all_labels records.now)) 18446744073709551615 }
 {
     let mut sum = 0usize;
     for item in records {

@@ -1,24 +1,17 @@
 // Writes one record.
-ghost use mathlib.Core.List.{[], _∷_, _++_};
-ghost use mathlib.Core.Path.{_≡_};
-ghost use Prim.Native.Nat.{_<_};
-ghost use lib.ListN.{length};
-ghost use Rattle·std.specs.Joined.{joined};
-ghost use Rattle·std.specs.Of.Vec.{vec-items};
-ghost use Rattle·std.specs.Results.{Cases};
-ghost use Rattle·std.specs.Vec.{made, Every};
-ghost use Rattle·program·specs.Entries.{entry};
-ghost use Rattle·program·specs.Format.{two, label-bytes, arc-bytes, FitsLabel, FitsArc, FitsBody, Fits, Resists, long, body as body-of, bytes};
+ghost use Rattle.std.specs.Prelude.{◌≡◌, ◌<◌, [], ◌∷◌, ◌++◌, length, MatchResult, OnOk};
+ghost use Rattle.std.specs.List.{flat_map, AllByRecursion};
+ghost use Rattle.program.specs.Entries.{entry};
+ghost use Rattle.program.specs.Format.{two, label_bytes, arc_bytes, FitsLabel, FitsArc, FitsBody, Fits, Resists, long, body as body_of, bytes};
+
 use crate::record::Record;
 use crate::unwritten::Unwritten;
-use crate::unwritten::UnwrittenFromAlloc;
 use algebra::arc::Arc;
 use algebra::label::Label;
-use std::alloc::AllocError;
-use std::alloc::Global;
+use std::alloc::{AllocError, Global};
 
 fn put_label(out: &mut Vec<u8>, label: Label) -> Result<(), AllocError>
-    ensures { λ r. ⌜ made r (λ _. FitsLabel label × (vec-items (now (out .exit)) ≡ vec-items (now (out .entry)) ++ label-bytes label)) ⌝ }
+    ensures { OnOk result (FitsLabel label × (out.new.items ≡ out.old.items ++ label_bytes label)) }
 {
     out.extend_from_slice(&label.cycles.to_le_bytes())?;
     out.extend_from_slice(&label.ports.to_le_bytes())?;
@@ -26,7 +19,7 @@ fn put_label(out: &mut Vec<u8>, label: Label) -> Result<(), AllocError>
 }
 
 fn put_arc(out: &mut Vec<u8>, arc: Arc) -> Result<(), AllocError>
-    ensures { λ r. ⌜ made r (λ _. FitsArc arc × (vec-items (now (out .exit)) ≡ vec-items (now (out .entry)) ++ arc-bytes arc)) ⌝ }
+    ensures { OnOk result (FitsArc arc × (out.new.items ≡ out.old.items ++ arc_bytes arc)) }
 {
     out.extend_from_slice(&[arc.from, arc.to])?;
     put_label(out, arc.label)?;
@@ -34,7 +27,7 @@ fn put_arc(out: &mut Vec<u8>, arc: Arc) -> Result<(), AllocError>
 }
 
 fn put_arcs(out: &mut Vec<u8>, arcs: &[Arc]) -> Result<(), AllocError>
-    ensures { λ r. ⌜ made r (λ _. Every FitsArc (now (arcs .entry)) × (vec-items (now (out .exit)) ≡ vec-items (now (out .entry)) ++ joined arc-bytes (now (arcs .entry)))) ⌝ }
+    ensures { OnOk result (AllByRecursion FitsArc arcs.now × (out.new.items ≡ out.old.items ++ flat_map arc_bytes arcs.now)) }
 {
     for arc in arcs {
         put_arc(out, *arc)?;
@@ -43,7 +36,7 @@ fn put_arcs(out: &mut Vec<u8>, arcs: &[Arc]) -> Result<(), AllocError>
 }
 
 fn put_step(out: &mut Vec<u8>, shelf: u8, label: Label) -> Result<(), AllocError>
-    ensures { λ r. ⌜ made r (λ _. (shelf < 256) × FitsLabel label × (vec-items (now (out .exit)) ≡ vec-items (now (out .entry)) ++ (shelf ∷ label-bytes label))) ⌝ }
+    ensures { OnOk result ((shelf < 256) × FitsLabel label × (out.new.items ≡ out.old.items ++ (shelf ∷ label_bytes label))) }
 {
     out.push(shelf)?;
     put_label(out, label)?;
@@ -51,8 +44,8 @@ fn put_step(out: &mut Vec<u8>, shelf: u8, label: Label) -> Result<(), AllocError
 }
 
 fn put_table(out: &mut Vec<u8>, shelf: u8, arcs: &[Arc]) -> Result<(), AllocError>
-    requires { ⌜ length (now arcs) < 65536 ⌝ }
-    ensures { λ r. ⌜ made r (λ _. (shelf < 256) × Every FitsArc (now (arcs .entry)) × (vec-items (now (out .exit)) ≡ vec-items (now (out .entry)) ++ (shelf ∷ two (length (now (arcs .entry))) ++ joined arc-bytes (now (arcs .entry))))) ⌝ }
+    requires { length arcs.now < 65536 }
+    ensures { OnOk result ((shelf < 256) × AllByRecursion FitsArc arcs.now × (out.new.items ≡ out.old.items ++ (shelf ∷ two (length arcs.now) ++ flat_map arc_bytes arcs.now))) }
 {
     let count = arcs.len() as u16;
     out.push(shelf)?;
@@ -62,22 +55,22 @@ fn put_table(out: &mut Vec<u8>, shelf: u8, arcs: &[Arc]) -> Result<(), AllocErro
 }
 
 fn put_shelves(out: &mut Vec<u8>, first: u8, second: u8) -> Result<(), AllocError>
-    ensures { λ r. ⌜ made r (λ _. (first < 256) × (second < 256) × (vec-items (now (out .exit)) ≡ vec-items (now (out .entry)) ++ (first ∷ second ∷ []))) ⌝ }
+    ensures { OnOk result ((first < 256) × (second < 256) × (out.new.items ≡ out.old.items ++ (first ∷ second ∷ []))) }
 {
     out.extend_from_slice(&[first, second])?;
     Ok(())
 }
 
 fn put_shelf(out: &mut Vec<u8>, shelf: u8) -> Result<(), AllocError>
-    ensures { λ r. ⌜ made r (λ _. (shelf < 256) × (vec-items (now (out .exit)) ≡ vec-items (now (out .entry)) ++ (shelf ∷ []))) ⌝ }
+    ensures { OnOk result ((shelf < 256) × (out.new.items ≡ out.old.items ++ (shelf ∷ []))) }
 {
     out.push(shelf)?;
     Ok(())
 }
 
 fn put_body(out: &mut Vec<u8>, written: &Record) -> Result<(), AllocError>
-    requires { ⌜ long (entry (now written)) < 65536 ⌝ }
-    ensures { λ r. ⌜ made r (λ _. FitsBody (entry (now (written .entry))) × (vec-items (now (out .exit)) ≡ vec-items (now (out .entry)) ++ body-of (entry (now (written .entry))))) ⌝ }
+    requires { long (entry written.now) < 65536 }
+    ensures { OnOk result (FitsBody (entry written.now) × (out.new.items ≡ out.old.items ++ body_of (entry written.now))) }
 {
     match written {
         Record::Node { shelf, label } => put_step(out, *shelf, *label),
@@ -94,7 +87,7 @@ fn put_body(out: &mut Vec<u8>, written: &Record) -> Result<(), AllocError>
 
 // The bytes of a record.
 pub fn write(heap: Global, written: &Record) -> Result<Vec<u8>, Unwritten>
-    ensures { λ r. ⌜ Cases r (λ v. Fits (entry (now (written .entry))) × (vec-items v ≡ bytes (entry (now (written .entry))))) (λ e. Resists e (entry (now (written .entry)))) ⌝ }
+    ensures { MatchResult result (λ v. Fits (entry written.now) × (v.items ≡ bytes (entry written.now))) (λ e. Resists e (entry written.now)) }
 {
     let length = written.length().ok_or(Unwritten::Long)?;
     let mut out = Vec::new(heap);

@@ -1,4 +1,6 @@
 // Files good and damaged, read and written: what the crate `program` does on examples.
+#![tactic(auto)]
+
 #[cfg(test)]
 mod damaged;
 #[cfg(test)]

@@ -1,21 +1,16 @@
 // Records written and read back, and their weights.
-use algebra::arc::Arc;
-use algebra::arc::OUT;
+use algebra::arc::{Arc, OUT};
 use algebra::best::Best;
-use algebra::best::BestAlgebra;
 use algebra::label::Label;
 use algebra::ports::Ports;
-use algebra::ports::PortsAlgebra;
 use algebra::worst::Worst;
-use algebra::worst::WorstAlgebra;
 use program::file::list;
 use program::record::Record;
-use program::unwritten::UnwrittenDebug;
-use program::weights::count;
-use program::weights::weight;
+use program::weights::{count, weight};
 use program::write::write;
 use std::alloc::Global;
-use std::test::*;
+use std::process::Abort;
+use std::test::Fail;
 
 const NODE: [u8; 13] = [13, 0, 1, 0, 1, 4, 3, 2, 1, 8, 7, 6, 5];
 
@@ -24,42 +19,44 @@ const PAUSE: [u8; 13] = [13, 0, 2, 0, 2, 255, 255, 255, 255, 1, 0, 0, 128];
 const TABLE: [u8; 17] = [17, 0, 3, 0, 3, 1, 0, 1, 255, 0, 7, 0, 0, 0, 0, 4, 0];
 
 // One record, read and written again, is the same bytes.
-fn same(heap: Global, bytes: &[u8]) -> Result<(), Fail> {
+fn same(rt: &impl Abort, heap: Global, bytes: &[u8]) -> Result<(), Fail> {
     let listing = list(heap, bytes)?;
-    check(listing.records.len() == 1)?;
+    assert!(rt; listing.records.len() == 1);
     let again = write(heap, &listing.records[0])?;
-    check(again.as_slice() == bytes)
+    assert!(rt; again.as_slice() == bytes);
+    Ok(())
 }
 
 #[test]
-fn round_trip(rt: LibcRuntime) -> Result<(), Fail> {
+fn round_trip(rt: HostRuntime) -> Result<(), Fail> {
     let heap = rt.alloc();
-    same(heap, &NODE)?;
-    same(heap, &PAUSE)?;
-    same(heap, &TABLE)?;
-    same(heap, &[6, 0, 4, 0, 1, 2])?;
-    same(heap, &[6, 0, 5, 0, 3, 4])?;
-    same(heap, &[5, 0, 6, 0, 5])?;
-    same(heap, &[6, 0, 7, 0, 6, 7])?;
-    same(heap, &[6, 0, 8, 0, 8, 9])?;
-    same(heap, &[5, 0, 9, 0, 10])
+    same(&rt, heap, &NODE)?;
+    same(&rt, heap, &PAUSE)?;
+    same(&rt, heap, &TABLE)?;
+    same(&rt, heap, &[6, 0, 4, 0, 1, 2])?;
+    same(&rt, heap, &[6, 0, 5, 0, 3, 4])?;
+    same(&rt, heap, &[5, 0, 6, 0, 5])?;
+    same(&rt, heap, &[6, 0, 7, 0, 6, 7])?;
+    same(&rt, heap, &[6, 0, 8, 0, 8, 9])?;
+    same(&rt, heap, &[5, 0, 9, 0, 10])
 }
 
 #[test]
-fn weights(rt: LibcRuntime) -> Result<(), Fail> {
+fn weights(rt: HostRuntime) -> Result<(), Fail> {
     let mut bytes = NODE.to_vec(rt.alloc())?;
     bytes.extend_from_slice(&TABLE)?;
     let listing = list(rt.alloc(), bytes.as_slice())?;
     let records = listing.records.as_slice();
-    check_eq(count(records), 2)?;
-    check_eq(weight::<Worst>(records).cycles, 16_909_060 + 1792)?;
-    check_eq(weight::<Ports>(records).bits, 0x0506_0708 | 0x0004_0000)?;
+    assert_eq!(rt; count(records), 2);
+    assert_eq!(rt; weight::<Worst>(records).cycles, 16_909_060 + 1792);
+    assert_eq!(rt; weight::<Ports>(records).bits, 0x0506_0708 | 0x0004_0000);
     bytes.extend_from_slice(&PAUSE)?;
     let listing = list(rt.alloc(), bytes.as_slice())?;
     let records = listing.records.as_slice();
-    check_eq(count(records), 3)?;
-    check_eq(weight::<Worst>(records).cycles, 4_294_967_295)?;
-    check_eq(weight::<Best>(records).cycles, 4_294_967_295)
+    assert_eq!(rt; count(records), 3);
+    assert_eq!(rt; weight::<Worst>(records).cycles, 4_294_967_295);
+    assert_eq!(rt; weight::<Best>(records).cycles, 4_294_967_295);
+    Ok(())
 }
 
 fn with_arcs(heap: Global, count: usize) -> Result<Record, Fail> {
@@ -79,10 +76,11 @@ fn with_arcs(heap: Global, count: usize) -> Result<Record, Fail> {
 }
 
 #[test]
-fn most_arcs(rt: LibcRuntime) -> Result<(), Fail> {
+fn most_arcs(rt: HostRuntime) -> Result<(), Fail> {
     let heap = rt.alloc();
     let most = with_arcs(heap, 6552)?;
-    check_eq(write(heap, &most)?.len(), 65_527)?;
+    assert_eq!(rt; write(heap, &most)?.len(), 65_527);
     let more = with_arcs(heap, 6553)?;
-    check(write(heap, &more).is_err())
+    assert!(rt; write(heap, &more).is_err());
+    Ok(())
 }

@@ -1,2 +1,4 @@
 // The rack: calls by shelf number, each with the whole promise.
+#![tactic(auto)]
+
 pub mod rack;

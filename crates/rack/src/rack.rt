@@ -1,22 +1,17 @@
 // A rack whose calls name shelves by number.
-ghost use mathlib.Core.List.{[], map};
-ghost use mathlib.Core.Path.{_≡_};
-ghost use Prim.Native.Nat.{ℕ, _≤_, _<_, min};
-ghost use denote.Ref.{now as held};
-ghost use lib.ListN.{length, getD, take, drop};
-ghost use Rattle·std.specs.declared.option.Option.the-variants.{None as absent};
-ghost use Rattle·shelves.specs.declared.call.Pairing.the-variants as kind;
-ghost use Rattle·shelves.specs.Calls.{node as node-call, pause as pause-call, table as table-call, pair as pair-call, loop as loop-call, clear as clear-call, report as report-call};
-ghost use Rattle·shelves.specs.Held.{state-of, call-of, Room};
-ghost use Rattle·shelves.specs.Promise.{Fresh, Made, Kept, Answers, AnswersAll};
-ghost use Rattle·shelves.specs.Told.{reply-of, shown};
-ghost use Rattle·shelves.specs.Changing.{answered};
+ghost use Rattle.std.specs.Prelude.{◌≡◌, ℕ, ◌<◌, ◌≤◌, min, [], map, length, take, drop, None as absent, slice_index_or};
+ghost use Rattle.shelves.specs.declared.call.Pairing.TheVariants as kind;
+ghost use Rattle.shelves.specs.Calls.{node as Node-call, pause as pause_call, table as table_call, pair as pair_call, loop as loop_call, clear as clear_call, report as report_call};
+ghost use Rattle.shelves.specs.Held.{state_of, call_of, Room};
+ghost use Rattle.shelves.specs.Promise.{Fresh, Made, Kept, Answers, AnswersAll};
+ghost use Rattle.shelves.specs.Told.{reply_of, shown};
+ghost use Rattle.shelves.specs.Changing.{answered};
+
 use algebra::algebra::Algebra;
 use algebra::arc::Arc;
 use algebra::label::Label;
 use shelves::answering::look;
-use shelves::call::Call;
-use shelves::call::Pairing;
+use shelves::call::{Call, Pairing};
 use shelves::changing::change;
 use shelves::core_state::Core;
 use shelves::listing::answer_all;
@@ -34,82 +29,82 @@ pub struct Rack<'a, V: Algebra> {
 impl<'a, V: Algebra> Rack<'a, V> {
     // A new rack over lent cells, after `enough` said yes of them. The history begins.
     pub fn open(cells: &'a mut [Option<V>]) -> Rack<'a, V>
-        requires { ⌜ 4096 ≤ length (now cells) ⌝ }
-        ensures blank { λ r. ⌜ ((j : ℕ) → j < 4096 → getD (held (r .core .cells)) j absent ≡ absent) ⌝ }
-        ensures past { λ r. ⌜ drop 4096 (held (r .core .cells)) ≡ drop 4096 (now (cells .entry)) ⌝ }
-        ensures fresh { λ r. ⌜ Fresh model (state-of model means (r .core)) ⌝ }
-        ensures promise { λ r. ⌜ Made model [] (state-of model means (r .core)) × Kept model [] (state-of model means (r .core)) ⌝ }
+        requires { 4096 ≤ length cells.old }
+        ensures blank { (j : ℕ) → j < 4096 → slice_index_or result.core.cells.now j absent ≡ absent }
+        ensures past { drop 4096 result.core.cells.now ≡ drop 4096 cells.old }
+        ensures fresh { Fresh V.model (state_of V.model V.means result.core) }
+        ensures promise { Made V.model [] (state_of V.model V.means result.core) × Kept V.model [] (state_of V.model V.means result.core) }
     {
         Rack { core: open(cells) }
     }
 
     pub fn node(&mut self, shelf: u8, label: Label) -> Result<usize, Refusal>
-        ensures { λ r. ⌜ Answers model (node-call shelf label) (answered model r) (state-of model means (now (self .entry) .core)) (state-of model means (now (self .exit) .core)) ⌝ }
+        ensures { Answers V.model (Node-call shelf label) (answered V.model result) (state_of V.model V.means self.old.core) (state_of V.model V.means self.new.core) }
     {
         change(&mut self.core, Call::node(shelf, label))
     }
 
     pub fn pause(&mut self, shelf: u8, label: Label) -> Result<usize, Refusal>
-        ensures { λ r. ⌜ Answers model (pause-call shelf label) (answered model r) (state-of model means (now (self .entry) .core)) (state-of model means (now (self .exit) .core)) ⌝ }
+        ensures { Answers V.model (pause_call shelf label) (answered V.model result) (state_of V.model V.means self.old.core) (state_of V.model V.means self.new.core) }
     {
         change(&mut self.core, Call::pause(shelf, label))
     }
 
     pub fn table(&mut self, shelf: u8, arcs: &[Arc]) -> Result<usize, Refusal>
-        ensures { λ r. ⌜ Answers model (table-call shelf (now (arcs .entry))) (answered model r) (state-of model means (now (self .entry) .core)) (state-of model means (now (self .exit) .core)) ⌝ }
+        ensures { Answers V.model (table_call shelf arcs.now) (answered V.model result) (state_of V.model V.means self.old.core) (state_of V.model V.means self.new.core) }
     {
         change(&mut self.core, Call::table(shelf, arcs))
     }
 
     pub fn choice(&mut self, first: u8, second: u8) -> Result<usize, Refusal>
-        ensures { λ r. ⌜ Answers model (pair-call kind.Choice first second) (answered model r) (state-of model means (now (self .entry) .core)) (state-of model means (now (self .exit) .core)) ⌝ }
+        ensures { Answers V.model (pair_call kind.Choice first second) (answered V.model result) (state_of V.model V.means self.old.core) (state_of V.model V.means self.new.core) }
     {
         change(&mut self.core, Call::pair(Pairing::Choice, first, second))
     }
 
     pub fn sequence(&mut self, first: u8, second: u8) -> Result<usize, Refusal>
-        ensures { λ r. ⌜ Answers model (pair-call kind.Sequence first second) (answered model r) (state-of model means (now (self .entry) .core)) (state-of model means (now (self .exit) .core)) ⌝ }
+        ensures { Answers V.model (pair_call kind.Sequence first second) (answered V.model result) (state_of V.model V.means self.old.core) (state_of V.model V.means self.new.core) }
     {
         change(&mut self.core, Call::pair(Pairing::Sequence, first, second))
     }
 
     pub fn fork(&mut self, first: u8, second: u8) -> Result<usize, Refusal>
-        ensures { λ r. ⌜ Answers model (pair-call kind.Fork first second) (answered model r) (state-of model means (now (self .entry) .core)) (state-of model means (now (self .exit) .core)) ⌝ }
+        ensures { Answers V.model (pair_call kind.Fork first second) (answered V.model result) (state_of V.model V.means self.old.core) (state_of V.model V.means self.new.core) }
     {
         change(&mut self.core, Call::pair(Pairing::Fork, first, second))
     }
 
     pub fn abort(&mut self, first: u8, second: u8) -> Result<usize, Refusal>
-        ensures { λ r. ⌜ Answers model (pair-call kind.Abort first second) (answered model r) (state-of model means (now (self .entry) .core)) (state-of model means (now (self .exit) .core)) ⌝ }
+        ensures { Answers V.model (pair_call kind.Abort first second) (answered V.model result) (state_of V.model V.means self.old.core) (state_of V.model V.means self.new.core) }
     {
         change(&mut self.core, Call::pair(Pairing::Abort, first, second))
     }
 
     // The call loop, whose name is a word of the language.
     pub fn repeat(&mut self, shelf: u8) -> Result<usize, Refusal>
-        ensures { λ r. ⌜ Answers model (loop-call shelf) (answered model r) (state-of model means (now (self .entry) .core)) (state-of model means (now (self .exit) .core)) ⌝ }
+        ensures { Answers V.model (loop_call shelf) (answered V.model result) (state_of V.model V.means self.old.core) (state_of V.model V.means self.new.core) }
     {
         change(&mut self.core, Call::repeat(shelf))
     }
 
     pub fn clear(&mut self, shelf: u8) -> Result<usize, Refusal>
-        ensures { λ r. ⌜ Answers model (clear-call shelf) (answered model r) (state-of model means (now (self .entry) .core)) (state-of model means (now (self .exit) .core)) ⌝ }
+        ensures { Answers V.model (clear_call shelf) (answered V.model result) (state_of V.model V.means self.old.core) (state_of V.model V.means self.new.core) }
     {
         change(&mut self.core, Call::clear(shelf))
     }
 
     // Report only looks.
     pub fn report(&self, shelf: u8) -> Result<Report<V>, Refusal>
-        ensures { λ r. ⌜ Answers model (report-call shelf) (shown model means r) (state-of model means (now (self .entry) .core)) (state-of model means (now (self .entry) .core)) ⌝ }
+        ensures { Answers V.model (report_call shelf) (shown V.model V.means result) (state_of V.model V.means self.now.core) (state_of V.model V.means self.now.core) }
     {
         look(&self.core, shelf)
     }
 
     // A whole list of calls, one after the other, as many as there are replies lent for, and how many.
     pub fn run(&mut self, calls: &[Call], replies: &mut [Reply<V>]) -> usize
-        ensures count { λ r. ⌜ r ≡ min (length (now (calls .entry))) (length (now (replies .entry))) ⌝ }
-        ensures rest { λ r. ⌜ drop r (now (replies .exit)) ≡ drop r (now (replies .entry)) ⌝ }
-        ensures answers { λ r. ⌜ AnswersAll model (map call-of (take r (now (calls .entry)))) (map (reply-of model means) (take r (now (replies .exit)))) (state-of model means (now (self .entry) .core)) (state-of model means (now (self .exit) .core)) ⌝ }
+        ensures count { result ≡ min (length calls.now) (length replies.old) }
+        ensures rest { drop result replies.new ≡ drop result replies.old }
+        ensures answers { AnswersAll V.model (map call_of (take result calls.now)) (map (reply_of V.model V.means) (take result replies.new)) (state_of V.model V.means self.old.core) (state_of V.model V.means self.new.core) }
     {
         answer_all(&mut self.core, calls, replies)
     }

@@ -1,64 +1,60 @@
 -- The phase of every tick: in its row, one after the other, and in closed form.
-use mathlib.Core.Logic.{_⊎_, ⊎-elim}
-use mathlib.Core.Path.{_≡_, refl, ap, _∙_}
-use Prim.Native.Nat.{ℕ, zero, suc, _+_, _-_, _%_, _≤_, _<_}
-use native.Mathlib.Nat.{suc-mod, mod-lt, mod-eq-of-lt, mod-self, zero-mod}
-use native.Mathlib.Omega.{arith}
-use lib.Dec.{ltb}
-use Rattle·std.proofs.shelf.Tests.{cases-lt, cond-true, cond-false, lt-ltb, le-ltb}
-use Rattle·rows·specs.Phases.{after, phase, Phases}
+use Rattle.std.proofs.Common.{◌≡◌, ℕ, zero, suc, ◌+◌, ◌-◌, ◌%◌, ◌<◌, ◌≤◌, ltb, ◌⊎◌, refl, ap, ◌∙◌, ⊎_elim, mod-lt, mod-eq_of_lt, arith}
+use native.Mathlib.Nat.{suc-mod, mod_self, zero-mod}
+use Rattle.std.proofs.lemmas.Bool.{cases_lt, cond-true, cond-false, lt-ltb, le-ltb}
+use Rattle.rows.specs.Phases.{after, phase, Phases}
 
 module _ (t d : ℕ) where
-  pub after-below : (k : ℕ) → suc k < t + d → after t d k ≡ suc k
-  after-below k h = cond-true (ltb (suc k) (t + d)) (suc k) t (lt-ltb (suc k) (t + d) h)
+  pub after_below : (k : ℕ) → suc k < t + d → after t d k ≡ suc k
+  after_below k h = cond-true (ltb (suc k) (t + d)) (suc k) t (lt-ltb (suc k) (t + d) h)
 
-  pub after-round : (k : ℕ) → t + d ≤ suc k → after t d k ≡ t
-  after-round k h = cond-false (ltb (suc k) (t + d)) (suc k) t (le-ltb (suc k) (t + d) h)
+  pub after_round : (k : ℕ) → t + d ≤ suc k → after t d k ≡ t
+  after_round k h = cond-false (ltb (suc k) (t + d)) (suc k) t (le-ltb (suc k) (t + d) h)
 
-  pub after-within : (k : ℕ) → 1 ≤ d → after t d k < t + d
-  after-within k pos = ⊎-elim
-      (λ h. let e = after-below k h in omega arith)
-      (λ h. let e = after-round k h in omega arith)
-      (cases-lt (suc k) (t + d))
+  pub after_within : (k : ℕ) → 1 ≤ d → after t d k < t + d
+  after_within k pos = ⊎_elim
+      (λ h. let e = after_below k h in omega arith)
+      (λ h. let e = after_round k h in omega arith)
+      (cases_lt (suc k) (t + d))
 
   module _ (pos : 1 ≤ d) where
-    pub phase-within : (n : ℕ) → phase t d n < t + d
-    phase-within zero = omega arith
-    phase-within (suc n) = after-within (phase t d n) pos
+    pub phase_within : (n : ℕ) → phase t d n < t + d
+    phase_within zero = omega arith
+    phase_within (suc n) = after_within (phase t d n) pos
 
-    pub phase-early : (n : ℕ) → n < t → phase t d n ≡ n
-    phase-early zero h = refl
-    phase-early (suc n) h =
-        ap (after t d) (phase-early n (omega arith)) ∙ after-below n (omega arith)
+    pub phase_early : (n : ℕ) → n < t → phase t d n ≡ n
+    phase_early zero h = refl
+    phase_early (suc n) h =
+        ap (after t d) (phase_early n (omega arith)) ∙ after_below n (omega arith)
 
     -- one more than x, in the round of d
     round : (x : ℕ) → after t d (t + x % d) ≡ t + suc x % d
     round x =
         let low : x % d < d = mod-lt x pos in
-        ⊎-elim
-        (λ h. after-below (t + x % d) (omega arith)
-        ∙ (let e : suc x % d ≡ suc (x % d) = suc-mod x d ∙ mod-eq-of-lt h in omega arith))
-        (λ h. after-round (t + x % d) (omega arith)
+        ⊎_elim
+        (λ h. after_below (t + x % d) (omega arith)
+        ∙ (let e : suc x % d ≡ suc (x % d) = suc-mod x d ∙ mod-eq_of_lt h in omega arith))
+        (λ h. after_round (t + x % d) (omega arith)
         ∙ (let f : suc (x % d) ≡ d = omega arith in
-        let e : suc x % d ≡ 0 = suc-mod x d ∙ ap (λ (y : ℕ). y % d) f ∙ mod-self d in omega arith))
-        (cases-lt (suc (x % d)) d)
+        let e : suc x % d ≡ 0 = suc-mod x d ∙ ap (λ (y : ℕ). y % d) f ∙ mod_self d in omega arith))
+        (cases_lt (suc (x % d)) d)
 
-    pub phase-late : (n : ℕ) → t ≤ n → phase t d n ≡ t + (n - t) % d
-    phase-late zero h =
+    pub phase_late : (n : ℕ) → t ≤ n → phase t d n ≡ t + (n - t) % d
+    phase_late zero h =
         let e : (0 - t) % d ≡ 0 = ap (λ (y : ℕ). y % d) (omega arith) ∙ zero-mod d in omega arith
-    phase-late (suc n) h = ⊎-elim
+    phase_late (suc n) h = ⊎_elim
         (λ before.
-        ap (after t d) (phase-early n before) ∙ after-below n (omega arith)
+        ap (after t d) (phase_early n before) ∙ after_below n (omega arith)
         ∙ (let e : (suc n - t) % d ≡ 0 = ap (λ (y : ℕ). y % d) (omega arith) ∙ zero-mod d in omega arith))
         (λ since.
-        ap (after t d) (phase-late n since) ∙ round (n - t)
+        ap (after t d) (phase_late n since) ∙ round (n - t)
         ∙ ap (λ (y : ℕ). t + y % d) (omega arith))
-        (cases-lt n t)
+        (cases_lt n t)
 
     pub phases : Phases t d
     phases = record {
-      within = phase-within;
+      within = phase_within;
       next = λ n. refl;
-      early = phase-early;
-      late = phase-late;
+      early = phase_early;
+      late = phase_late;
     }

@@ -1,12 +1,9 @@
 -- Phases: where a tick falls in rows that repeat from a transient on with a period.
-use mathlib.Core.Bool.{cond}
-use mathlib.Core.Path.{_≡_}
-use Prim.Native.Nat.{ℕ, zero, suc, _+_, _-_, _%_, _≤_, _<_}
-use lib.Dec.{ltb}
+use Rattle.std.specs.Prelude.{◌≡◌, ℕ, zero, suc, ◌+◌, ◌-◌, ◌%◌, ◌<◌, ◌≤◌, cond, nat_lt}
 
 -- the phase after k: k + 1, or the transient where k + 1 reaches transient plus period
 abbrev pub after : (transient period k : ℕ) → ℕ
-after transient period k = cond (ltb (suc k) (transient + period)) (suc k) transient
+after transient period k = cond (nat_lt (suc k) (transient + period)) (suc k) transient
 
 -- the phase of tick n
 abbrev pub phase : (transient period n : ℕ) → ℕ

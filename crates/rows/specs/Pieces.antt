@@ -1,18 +1,13 @@
 -- The rows of a piece, and where a shelf keeps them.
-use mathlib.Core.Bool.{_&&_}
-use mathlib.Core.List.{List, map}
-use Prim.Native.Nat.{ℕ, _+_, _*_}
-use lib.ListN.{getD}
-use Rattle·std.specs.declared.option.Option.{Option}
-use Rattle·std.specs.declared.option.Option.the-variants.{None}
-use Rattle·std.specs.Options.{mapped, isSome}
-use Rattle·algebra.specs.Model.{Model}
-use Rattle·algebra.specs.Coefficients.{Coef}
-use Rattle·rows·specs.declared.piece.Piece.{Piece}
-use Rattle·rows·specs.declared.piece.Row.{Row}
-use Rattle·rows·specs.declared.piece.Row.the-variants.{Pause, Exit}
-use Rattle·rows·specs.Phases.{phase, after}
-use Rattle·rows·specs.Sets.{has, image}
+use Rattle.std.specs.Prelude.{ℕ, ◌+◌, ◌*◌, ◌&&◌, List, map, is_some, None, Option, slice_index_or}
+use Rattle.std.specs.Option.{option_map}
+use Rattle.algebra.specs.Model.{Model}
+use Rattle.algebra.specs.Coefficients.{Coef}
+use Rattle.rows.specs.declared.piece.Piece.{Piece}
+use Rattle.rows.specs.declared.piece.Row.{Row}
+use Rattle.rows.specs.declared.piece.Row.TheVariants.{Pause, Exit}
+use Rattle.rows.specs.Phases.{phase, after}
+use Rattle.rows.specs.Sets.{has, image}
 
 -- two rows that repeat from the transient on with the period: the coefficients of pause, p, and of exit, e, at each phase
 pub record Rows (m : Model) : Type 0 where
@@ -23,46 +18,46 @@ pub record Rows (m : Model) : Type 0 where
 
 -- one of the two rows
 abbrev pub row : {m : Model} → Rows m → Row → ℕ → Coef m
-row a Pause = a .p
-row a Exit = a .e
+row a Pause = a.p
+row a Exit = a.e
 
 -- how many phases there are
 abbrev pub size : {m : Model} → Rows m → ℕ
-size a = a .transient + a .period
+size a = a.transient + a.period
 
 -- the phase after k
-abbrev pub next-phase : {m : Model} → Rows m → ℕ → ℕ
-next-phase a = after (a .transient) (a .period)
+abbrev pub next_phase : {m : Model} → Rows m → ℕ → ℕ
+next_phase a = after a.transient a.period
 
 -- the phase after each member of a set with p present
 abbrev pub moved : {m : Model} → Rows m → (set : ℕ) → ℕ
-moved a set = image (λ k. has set k && isSome (a .p k)) (next-phase a) (size a)
+moved a set = image (λ k. has set k && is_some (a.p k)) (next_phase a) (size a)
 
 -- the pause coefficient at tick n
-abbrev pub pause-at : {m : Model} → Rows m → ℕ → Coef m
-pause-at a n = a .p (phase (a .transient) (a .period) n)
+abbrev pub pause_at : {m : Model} → Rows m → ℕ → Coef m
+pause_at a n = a.p (phase a.transient a.period n)
 
 -- the exit coefficient at tick n
-abbrev pub exit-at : {m : Model} → Rows m → ℕ → Coef m
-exit-at a n = a .e (phase (a .transient) (a .period) n)
+abbrev pub exit_at : {m : Model} → Rows m → ℕ → Coef m
+exit_at a n = a.e (phase a.transient a.period n)
 
 -- both rows at tick n: what a shelf gives there
-abbrev pub given-at : {m : Model} → Rows m → ℕ → Coef m × Coef m
-given-at a n = (pause-at a n, exit-at a n)
+abbrev pub given_at : {m : Model} → Rows m → ℕ → Coef m × Coef m
+given_at a n = (pause_at a n, exit_at a n)
 
 -- what lent cells mean
 abbrev pub meanings : {V C : Type 0} → (V → C) → List (Option V) → List (Option C)
-meanings means = map (mapped means)
+meanings means = map (option_map means)
 
 -- the rows of a shelf's cells, 64 for pause and then 64 for exit, at a shape
-abbrev pub on-shelf : (m : Model) → List (Coef m) → (shelf transient period : ℕ) → Rows m
-on-shelf m cells shelf transient period = record {
+abbrev pub on_shelf : (m : Model) → List (Coef m) → (shelf transient period : ℕ) → Rows m
+on_shelf m cells shelf transient period = record {
   transient = transient;
   period = period;
-  p = λ k. getD cells (128 * shelf + k) None;
-  e = λ k. getD cells (128 * shelf + 64 + k) None;
+  p = λ k. slice_index_or cells (128 * shelf + k) None;
+  e = λ k. slice_index_or cells (128 * shelf + 64 + k) None;
 }
 
 -- the rows of a piece
-abbrev pub rows-of : (m : Model) → List (Coef m) → Piece → Rows m
-rows-of m cells a = on-shelf m cells (a .shelf) (a .shape .transient) (a .shape .period)
+abbrev pub rows_of : (m : Model) → List (Coef m) → Piece → Rows m
+rows_of m cells a = on_shelf m cells a.shelf a.shape.transient a.shape.period

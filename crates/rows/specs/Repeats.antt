@@ -1,10 +1,9 @@
 -- Situations that come again, and rows that repeat.
-use mathlib.Core.Path.{_≡_}
-use Prim.Native.Nat.{ℕ, _+_, _≤_, _<_}
+use Rattle.std.specs.Prelude.{◌≡◌, ℕ, ◌+◌, ◌<◌, ◌≤◌, ◌≢◌}
 
 -- none of the situations 0 to n - 1 equals an earlier one
 abbrev pub NoRepeat : {S : Type 0} → (ℕ → S) → ℕ → Type 0
-NoRepeat at n = (j k : ℕ) → j < k → k < n → at j ≡ at k → ⊥
+NoRepeat at n = (j k : ℕ) → j < k → k < n → at j ≢ at k
 
 -- n is the least number whose situation equals an earlier one's
 pub record FirstRepeat {S : Type 0} (at : ℕ → S) (n : ℕ) : Type 0 where
@@ -19,5 +18,5 @@ Repeats row transient period = (n : ℕ) → transient ≤ n → row (n + period
 pub record LeastShape {X : Type 0} (row : ℕ → X) (transient period : ℕ) : Type 0 where
   pub positive : 1 ≤ period
   pub repeats : Repeats row transient period
-  pub least-period : (t d : ℕ) → 1 ≤ d → Repeats row t d → period ≤ d
-  pub least-transient : (t : ℕ) → Repeats row t period → transient ≤ t
+  pub least_period : (t d : ℕ) → 1 ≤ d → Repeats row t d → period ≤ d
+  pub least_transient : (t : ℕ) → Repeats row t period → transient ≤ t

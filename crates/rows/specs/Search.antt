@@ -1,21 +1,15 @@
 -- How the least shape is looked for: in the rows noted up to the first repeated situation.
-use mathlib.Core.Bool.{cond}
-use mathlib.Core.List.{List}
-use mathlib.Core.Path.{_≡_}
-use Prim.Native.Nat.{ℕ, _+_, _-_, _≤_, _<_}
-use lib.Dec.{ltb}
-use lib.ListN.{getD}
-use Rattle·std.specs.declared.option.Option.the-variants.{None}
-use Rattle·algebra.specs.Model.{Model}
-use Rattle·algebra.specs.Coefficients.{Coef}
+use Rattle.std.specs.Prelude.{◌≡◌, ℕ, ◌+◌, ◌-◌, ◌<◌, ◌≤◌, cond, List, None, ◌≢◌, nat_lt, slice_index_or}
+use Rattle.algebra.specs.Model.{Model}
+use Rattle.algebra.specs.Coefficients.{Coef}
 
 -- pause and exit at tick k as the working cells have them
 abbrev pub noted : (m : Model) → List (Coef m) → ℕ → Coef m × Coef m
-noted m cells k = (getD cells (2048 + k) None, getD cells (3072 + k) None)
+noted m cells k = (slice_index_or cells (2048 + k) None, slice_index_or cells (3072 + k) None)
 
 -- a tick of the round after the one from i up to n, taken back into that one
 abbrev pub folded : (i n k : ℕ) → ℕ
-folded i n k = cond (ltb k n) k (k - (n - i))
+folded i n k = cond (nat_lt k n) k (k - (n - i))
 
 -- the round from i up to n has the period d
 abbrev pub RoundHas : {X : Type 0} → (ℕ → X) → (i n d : ℕ) → Type 0
@@ -32,4 +26,4 @@ pub record LeastPeriod {X : Type 0} (row : ℕ → X) (i n d : ℕ) : Type 0 whe
 pub record LeastTransient {X : Type 0} (row : ℕ → X) (i d t : ℕ) : Type 0 where
   pub within : t ≤ i
   pub back : (k : ℕ) → t ≤ k → k < i → row (k + d) ≡ row k
-  pub least : (k : ℕ) → t ≡ k + 1 → row (k + d) ≡ row k → ⊥
+  pub least : (k : ℕ) → t ≡ k + 1 → row (k + d) ≢ row k

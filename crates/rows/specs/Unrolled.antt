@@ -1,21 +1,17 @@
 -- What it is to unroll a rule onto a shelf.
-use mathlib.Core.List.{List}
-use mathlib.Core.Path.{_≡_}
-use Prim.Native.Nat.{ℕ, _+_, _*_, _≤_, _<_}
-use lib.ListN.{getD}
-use Rattle·std.specs.declared.option.Option.the-variants.{None}
-use Rattle·algebra.specs.Model.{Model}
-use Rattle·algebra.specs.Coefficients.{Coef}
-use Rattle·rows·specs.Pieces.{on-shelf, given-at}
-use Rattle·rows·specs.Repeats.{NoRepeat, FirstRepeat, LeastShape}
-use Rattle·rows·specs.Rules.Rule.{Rule, at, rows}
+use Rattle.std.specs.Prelude.{◌≡◌, ℕ, ◌+◌, ◌*◌, ◌<◌, ◌≤◌, List, None, slice_index_or}
+use Rattle.algebra.specs.Model.{Model}
+use Rattle.algebra.specs.Coefficients.{Coef}
+use Rattle.rows.specs.Pieces.{on_shelf, given_at}
+use Rattle.rows.specs.Repeats.{NoRepeat, FirstRepeat, LeastShape}
+use Rattle.rows.specs.Rules.Rule.{Rule, at, rows}
 
 -- a shelf keeps the rows: the shape is their least one, the shelf gives them at every tick, and it is absent past the shape
 pub record Keeps (m : Model) (row : ℕ → Coef m × Coef m) (shelf transient period : ℕ) (cells : List (Coef m)) : Type 0 where
   pub least : LeastShape row transient period
-  pub gives : (n : ℕ) → given-at (on-shelf m cells shelf transient period) n ≡ row n
-  pub no-pause : (k : ℕ) → transient + period ≤ k → k < 64 → getD cells (128 * shelf + k) None ≡ None
-  pub no-exit : (k : ℕ) → transient + period ≤ k → k < 64 → getD cells (128 * shelf + 64 + k) None ≡ None
+  pub gives : (n : ℕ) → given_at (on_shelf m cells shelf transient period) n ≡ row n
+  pub no_pause : (k : ℕ) → transient + period ≤ k → k < 64 → slice_index_or cells (128 * shelf + k) None ≡ None
+  pub no_exit : (k : ℕ) → transient + period ≤ k → k < 64 → slice_index_or cells (128 * shelf + 64 + k) None ≡ None
 
 module _ {m : Model} (rule : Rule m) where
   -- the rule is unrolled: the reply is the first repeated situation's number, and the shelf keeps the rule's two rows

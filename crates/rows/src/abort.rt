@@ -1,16 +1,13 @@
 // Abort, H over A: both phases, and whether A was paused at the tick before.
-ghost use Prim.Native.Nat.{_+_, _<_};
-ghost use Rattle·rows·specs.Pieces.{rows-of};
-ghost use Rattle·rows·specs.Rules.Abort.{abort as the-abort};
-use crate::piece::Piece;
-use crate::piece::Row;
-use crate::rule::RowRule;
-use crate::rule::Tick;
+ghost use Rattle.std.specs.Prelude.{◌+◌, ◌<◌};
+ghost use Rattle.rows.specs.Pieces.{rows_of};
+ghost use Rattle.rows.specs.Rules.Abort.{abort as the_abort};
+
+use crate::piece::{Piece, Row};
+use crate::rule::{RowRule, Tick};
 use crate::situation::Situation;
 use algebra::algebra::Algebra;
-use algebra::coefficient::add;
-use algebra::coefficient::join;
-use algebra::coefficient::mark;
+use algebra::coefficient::{add, join, mark};
 
 #[derive(Clone, Copy)]
 pub struct Abort {
@@ -18,10 +15,10 @@ pub struct Abort {
     pub a: Piece,
 }
 
-pub impl RowRule for Abort as AbortRule {
-    ghost fits = { λ r s. (s .a < r .h .shape .transient + r .h .shape .period) × (s .b < r .a .shape .transient + r .a .shape .period) };
+impl RowRule for Abort {
+    ghost fits = { λ r s. (s.a < r.h.shape.transient + r.h.shape.period) × (s.b < r.a.shape.transient + r.a.shape.period) };
 
-    ghost works = { λ r m cells. the-abort m (rows-of m cells (r .h)) (rows-of m cells (r .a)) };
+    ghost works = { λ r m cells. the_abort m (rows_of m cells r.h) (rows_of m cells r.a) };
 
     fn first<V: Algebra>(&self, cells: &[Option<V>]) -> Situation {
         Situation {

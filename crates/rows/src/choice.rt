@@ -1,11 +1,10 @@
 // Choice of A and B: both phases, joined tick by tick.
-ghost use Prim.Native.Nat.{_+_, _<_};
-ghost use Rattle·rows·specs.Pieces.{rows-of};
-ghost use Rattle·rows·specs.Rules.Choice.{choice as the-choice};
-use crate::piece::Piece;
-use crate::piece::Row;
-use crate::rule::RowRule;
-use crate::rule::Tick;
+ghost use Rattle.std.specs.Prelude.{◌+◌, ◌<◌};
+ghost use Rattle.rows.specs.Pieces.{rows_of};
+ghost use Rattle.rows.specs.Rules.Choice.{choice as the_choice};
+
+use crate::piece::{Piece, Row};
+use crate::rule::{RowRule, Tick};
 use crate::situation::Situation;
 use algebra::algebra::Algebra;
 use algebra::coefficient::join;
@@ -16,10 +15,10 @@ pub struct Choice {
     pub b: Piece,
 }
 
-pub impl RowRule for Choice as ChoiceRule {
-    ghost fits = { λ r s. (s .a < r .a .shape .transient + r .a .shape .period) × (s .b < r .b .shape .transient + r .b .shape .period) };
+impl RowRule for Choice {
+    ghost fits = { λ r s. (s.a < r.a.shape.transient + r.a.shape.period) × (s.b < r.b.shape.transient + r.b.shape.period) };
 
-    ghost works = { λ r m cells. the-choice m (rows-of m cells (r .a)) (rows-of m cells (r .b)) };
+    ghost works = { λ r m cells. the_choice m (rows_of m cells r.a) (rows_of m cells r.b) };
 
     fn first<V: Algebra>(&self, cells: &[Option<V>]) -> Situation {
         Situation {

@@ -1,16 +1,13 @@
 // Fork of A and B: both phases, and for each side whether it may have left earlier.
-ghost use Prim.Native.Nat.{_+_, _<_};
-ghost use Rattle·rows·specs.Pieces.{rows-of};
-ghost use Rattle·rows·specs.Rules.Fork.{fork as the-fork};
-use crate::piece::Piece;
-use crate::piece::Row;
-use crate::rule::RowRule;
-use crate::rule::Tick;
+ghost use Rattle.std.specs.Prelude.{◌+◌, ◌<◌};
+ghost use Rattle.rows.specs.Pieces.{rows_of};
+ghost use Rattle.rows.specs.Rules.Fork.{fork as the_fork};
+
+use crate::piece::{Piece, Row};
+use crate::rule::{RowRule, Tick};
 use crate::situation::Situation;
 use algebra::algebra::Algebra;
-use algebra::coefficient::add;
-use algebra::coefficient::join;
-use algebra::coefficient::mark;
+use algebra::coefficient::{add, join, mark};
 
 #[derive(Clone, Copy)]
 pub struct Fork {
@@ -18,10 +15,10 @@ pub struct Fork {
     pub b: Piece,
 }
 
-pub impl RowRule for Fork as ForkRule {
-    ghost fits = { λ r s. (s .a < r .a .shape .transient + r .a .shape .period) × (s .b < r .b .shape .transient + r .b .shape .period) };
+impl RowRule for Fork {
+    ghost fits = { λ r s. (s.a < r.a.shape.transient + r.a.shape.period) × (s.b < r.b.shape.transient + r.b.shape.period) };
 
-    ghost works = { λ r m cells. the-fork m (rows-of m cells (r .a)) (rows-of m cells (r .b)) };
+    ghost works = { λ r m cells. the_fork m (rows_of m cells r.a) (rows_of m cells r.b) };
 
     fn first<V: Algebra>(&self, cells: &[Option<V>]) -> Situation {
         Situation {

@@ -1,4 +1,6 @@
 // Rows of tick costs: shapes and phases, the six working rules, and their unrolling.
+#![tactic(auto)]
+
 pub mod abort;
 pub mod choice;
 pub mod fill;

@@ -1,22 +1,22 @@
 // Phases: where a tick falls in a shape.
-ghost use mathlib.Core.Path.{_≡_};
-ghost use Prim.Native.Nat.{ℕ, _+_, _≤_, _<_};
-ghost use Rattle·rows·specs.Phases.{after as phase-after, Phases};
+ghost use Rattle.std.specs.Prelude.{◌≡◌, ℕ, ◌+◌, ◌<◌, ◌≤◌};
+ghost use Rattle.rows.specs.Phases.{after as phase_after, Phases};
+
 use crate::shape::Shape;
 
 impl Shape {
     // How many phases there are.
     pub fn size(&self) -> usize
-        ensures { λ r. ⌜ r ≡ now (self .entry) .transient + now (self .entry) .period ⌝ }
+        ensures { result ≡ self.now.transient + self.now.period }
     {
         self.transient + self.period
     }
 
     // The phase after k.
     pub fn after(&self, k: usize) -> usize
-        requires { ⌜ k < now self .transient + now self .period ⌝ }
-        ensures value { λ r. ⌜ r ≡ phase-after (now (self .entry) .transient) (now (self .entry) .period) k ⌝ }
-        ensures within { λ r. ⌜ r < now (self .entry) .transient + now (self .entry) .period ⌝ }
+        requires { k < self.now.transient + self.now.period }
+        ensures value { result ≡ phase_after self.now.transient self.now.period k }
+        ensures within { result < self.now.transient + self.now.period }
     {
         if k + 1 < self.transient + self.period {
             k + 1
@@ -28,5 +28,5 @@ impl Shape {
 
 // Every tick has a phase that indexes its row, and phases go round from the transient on.
 pub fn phases_stand()
-    ensures { λ _. ⌜ ((transient period : ℕ) → 1 ≤ period → Phases transient period) ⌝ }
+    ensures { (transient period : ℕ) → 1 ≤ period → Phases transient period }
 {}

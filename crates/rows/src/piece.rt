@@ -1,5 +1,6 @@
 // A piece: the shelf that keeps its two rows, and their shape.
-ghost use Prim.Native.Nat.{_≤_};
+ghost use Rattle.std.specs.Prelude.{◌≤◌};
+
 use crate::shape::Shape;
 
 #[derive(Clone, Copy)]

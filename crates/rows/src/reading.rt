@@ -1,23 +1,20 @@
 // Reading a piece's coefficients from the cells, and joining or moving a set of its phases.
-ghost use mathlib.Core.Path.{_≡_};
-ghost use Prim.Native.Nat.{_+_, _≤_, _<_};
-ghost use lib.ListN.{length};
-ghost use Rattle·std.specs.Options.{mapped};
-ghost use Rattle·rows·specs.Pieces.{rows-of, meanings, row as row-of, size, moved as phases-after};
-ghost use Rattle·rows·specs.Sets.{has as has-member, joins};
-use crate::piece::Piece;
-use crate::piece::Row;
-use crate::sets::has;
-use crate::sets::with;
+ghost use Rattle.std.specs.Prelude.{◌≡◌, ◌+◌, ◌<◌, ◌≤◌, length};
+ghost use Rattle.std.specs.Option.{option_map};
+ghost use Rattle.rows.specs.Pieces.{rows_of, meanings, row as row_of, size, moved as phases_after};
+ghost use Rattle.rows.specs.Sets.{has as has_member, joins};
+
+use crate::piece::{Piece, Row};
+use crate::sets::{has, with};
 use algebra::algebra::Algebra;
 use algebra::coefficient::join;
 
 impl Piece {
     // The coefficient of a row at phase k.
     pub fn at<V: Algebra>(&self, row: Row, cells: &[Option<V>], k: usize) -> Option<V>
-        requires phase { ⌜ k < now self .shape .transient + now self .shape .period ⌝ }
-        requires room { ⌜ 2048 ≤ length (now cells) ⌝ }
-        ensures { λ r. ⌜ mapped means r ≡ row-of (rows-of model (meanings means (now (cells .entry))) (now (self .entry))) row k ⌝ }
+        requires phase { k < self.now.shape.transient + self.now.shape.period }
+        requires room { 2048 ≤ length cells.now }
+        ensures { option_map V.means result ≡ row_of (rows_of V.model (meanings V.means cells.now) self.now) row k }
     {
         match row {
             Row::Pause => cells[128 * self.shelf + k],
@@ -27,8 +24,8 @@ impl Piece {
 
     // The join of a row's coefficients over a set of phases.
     pub fn over<V: Algebra>(&self, row: Row, cells: &[Option<V>], set: u64) -> Option<V>
-        requires { ⌜ 2048 ≤ length (now cells) ⌝ }
-        ensures { λ r. ⌜ mapped means r ≡ joins model (has-member set) (row-of (rows-of model (meanings means (now (cells .entry))) (now (self .entry))) row) (size (rows-of model (meanings means (now (cells .entry))) (now (self .entry)))) ⌝ }
+        requires { 2048 ≤ length cells.now }
+        ensures { option_map V.means result ≡ joins V.model (has_member set) (row_of (rows_of V.model (meanings V.means cells.now) self.now) row) (size (rows_of V.model (meanings V.means cells.now) self.now)) }
     {
         let mut all = None;
         for k in 0..self.shape.size() {
@@ -41,8 +38,8 @@ impl Piece {
 
     // The phase after each member of a set at which pause is present.
     pub fn moved<V: Algebra>(&self, cells: &[Option<V>], set: u64) -> u64
-        requires { ⌜ 2048 ≤ length (now cells) ⌝ }
-        ensures { λ r. ⌜ r ≡ phases-after (rows-of model (meanings means (now (cells .entry))) (now (self .entry))) set ⌝ }
+        requires { 2048 ≤ length cells.now }
+        ensures { result ≡ phases_after (rows_of V.model (meanings V.means cells.now) self.now) set }
     {
         let mut after = 0;
         for k in 0..self.shape.size() {

@@ -1,19 +1,15 @@
 // Loop of A: the set of phases that A may be in, and whether it is tick 0.
-ghost use mathlib.Core.Path.{_≡_};
-ghost use Prim.Native.Nat.{_≤_};
-ghost use lib.ListN.{length};
-ghost use Rattle·std.specs.Options.{mapped};
-ghost use Rattle·rows·specs.Pieces.{rows-of, meanings};
-ghost use Rattle·rows·specs.Rules.Loop.{loop as the-loop, starts};
-use crate::piece::Piece;
-use crate::piece::Row;
-use crate::rule::RowRule;
-use crate::rule::Tick;
+ghost use Rattle.std.specs.Prelude.{◌≡◌, ◌≤◌, length};
+ghost use Rattle.std.specs.Option.{option_map};
+ghost use Rattle.rows.specs.Pieces.{rows_of, meanings};
+ghost use Rattle.rows.specs.Rules.Loop.{loop as the_loop, starts};
+
+use crate::piece::{Piece, Row};
+use crate::rule::{RowRule, Tick};
 use crate::sets::with;
 use crate::situation::Situation;
 use algebra::algebra::Algebra;
-use algebra::coefficient::add;
-use algebra::coefficient::join;
+use algebra::coefficient::{add, join};
 
 #[derive(Clone, Copy)]
 pub struct Repeat {
@@ -23,8 +19,8 @@ pub struct Repeat {
 impl Repeat {
     // The weight with which A starts at this tick: the unit at tick 0, later what its runs leave with.
     fn again<V: Algebra>(&self, cells: &[Option<V>], s: Situation) -> Option<V>
-        requires { ⌜ 2048 ≤ length (now cells) ⌝ }
-        ensures { λ r. ⌜ mapped means r ≡ starts model (rows-of model (meanings means (now (cells .entry))) (now (self .entry) .a)) (s .wa) (s .set) ⌝ }
+        requires { 2048 ≤ length cells.now }
+        ensures { option_map V.means result ≡ starts V.model (rows_of V.model (meanings V.means cells.now) self.now.a) s.wa s.set }
     {
         if s.wa {
             Some(V::unit())
@@ -34,10 +30,10 @@ impl Repeat {
     }
 }
 
-pub impl RowRule for Repeat as RepeatRule {
+impl RowRule for Repeat {
     ghost fits = { λ r s. Unit {0} };
 
-    ghost works = { λ r m cells. the-loop m (rows-of m cells (r .a)) };
+    ghost works = { λ r m cells. the_loop m (rows_of m cells r.a) };
 
     fn first<V: Algebra>(&self, cells: &[Option<V>]) -> Situation {
         Situation {

@@ -1,14 +1,12 @@
 // A row rule: it carries a situation from tick to tick, and gives the pause and exit coefficients at each.
-ghost use mathlib.Core.List.{List};
-ghost use mathlib.Core.Path.{_≡_};
-ghost use Prim.Native.Nat.{_≤_};
-ghost use lib.ListN.{length};
-ghost use Rattle·std.specs.Options.{mapped};
-ghost use Rattle·algebra.specs.Model.{Model};
-ghost use Rattle·algebra.specs.Coefficients.{Coef};
-ghost use Rattle·rows·specs.declared.situation.Situation.{Situation as Sit};
-ghost use Rattle·rows·specs.Pieces.{meanings};
-ghost use Rattle·rows·specs.Rules.Rule.{Rule};
+ghost use Rattle.std.specs.Prelude.{◌≡◌, ◌≤◌, List, length};
+ghost use Rattle.std.specs.Option.{option_map};
+ghost use Rattle.algebra.specs.Model.{Model};
+ghost use Rattle.algebra.specs.Coefficients.{Coef};
+ghost use Rattle.rows.specs.declared.situation.Situation.{Situation as Sit};
+ghost use Rattle.rows.specs.Pieces.{meanings};
+ghost use Rattle.rows.specs.Rules.Rule.{Rule};
+
 use crate::situation::Situation;
 use algebra::algebra::Algebra;
 
@@ -27,14 +25,14 @@ pub trait RowRule {
     ghost works: { Self → (m : Model) → List (Coef m) → Rule m };
 
     fn first<V: Algebra>(&self, cells: &[Option<V>]) -> Situation
-        ensures value { λ r. ⌜ r ≡ works (now (self .entry)) (V·Algebra .model) (meanings (V·Algebra .means) (now (cells .entry))) .first ⌝ }
-        ensures fits { λ r. ⌜ fits (now (self .entry)) r ⌝ };
+        ensures value { result ≡ (works self.now V.Algebra.model (meanings V.Algebra.means cells.now)).first }
+        ensures fits { fits self.now result };
 
     fn look<V: Algebra>(&self, cells: &[Option<V>], s: Situation) -> Tick<V>
-        requires fits { ⌜ fits (now self) s ⌝ }
-        requires room { ⌜ 2048 ≤ length (now cells) ⌝ }
-        ensures pause { λ r. ⌜ mapped (V·Algebra .means) (r .pause) ≡ works (now (self .entry)) (V·Algebra .model) (meanings (V·Algebra .means) (now (cells .entry))) .pause s ⌝ }
-        ensures exit { λ r. ⌜ mapped (V·Algebra .means) (r .exit) ≡ works (now (self .entry)) (V·Algebra .model) (meanings (V·Algebra .means) (now (cells .entry))) .exit s ⌝ }
-        ensures next { λ r. ⌜ r .next ≡ works (now (self .entry)) (V·Algebra .model) (meanings (V·Algebra .means) (now (cells .entry))) .next s ⌝ }
-        ensures fits { λ r. ⌜ fits (now (self .entry)) (r .next) ⌝ };
+        requires fits { fits self.now s }
+        requires room { 2048 ≤ length cells.now }
+        ensures pause { option_map V.Algebra.means result.pause ≡ (works self.now V.Algebra.model (meanings V.Algebra.means cells.now)).pause s }
+        ensures exit { option_map V.Algebra.means result.exit ≡ (works self.now V.Algebra.model (meanings V.Algebra.means cells.now)).exit s }
+        ensures next { result.next ≡ (works self.now V.Algebra.model (meanings V.Algebra.means cells.now)).next s }
+        ensures fits { fits self.now result.next };
 }

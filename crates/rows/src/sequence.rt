@@ -1,16 +1,14 @@
 // Sequence of A and B: A's phase and the set of phases that B may be in.
-ghost use Prim.Native.Nat.{_+_, _<_};
-ghost use Rattle·rows·specs.Pieces.{rows-of};
-ghost use Rattle·rows·specs.Rules.Sequence.{sequence as the-sequence};
-use crate::piece::Piece;
-use crate::piece::Row;
-use crate::rule::RowRule;
-use crate::rule::Tick;
+ghost use Rattle.std.specs.Prelude.{◌+◌, ◌<◌};
+ghost use Rattle.rows.specs.Pieces.{rows_of};
+ghost use Rattle.rows.specs.Rules.Sequence.{sequence as the_sequence};
+
+use crate::piece::{Piece, Row};
+use crate::rule::{RowRule, Tick};
 use crate::sets::with;
 use crate::situation::Situation;
 use algebra::algebra::Algebra;
-use algebra::coefficient::add;
-use algebra::coefficient::join;
+use algebra::coefficient::{add, join};
 
 #[derive(Clone, Copy)]
 pub struct Sequence {
@@ -18,10 +16,10 @@ pub struct Sequence {
     pub b: Piece,
 }
 
-pub impl RowRule for Sequence as SequenceRule {
-    ghost fits = { λ r s. s .a < r .a .shape .transient + r .a .shape .period };
+impl RowRule for Sequence {
+    ghost fits = { λ r s. s.a < r.a.shape.transient + r.a.shape.period };
 
-    ghost works = { λ r m cells. the-sequence m (rows-of m cells (r .a)) (rows-of m cells (r .b)) };
+    ghost works = { λ r m cells. the_sequence m (rows_of m cells r.a) (rows_of m cells r.b) };
 
     fn first<V: Algebra>(&self, cells: &[Option<V>]) -> Situation {
         Situation {

@@ -1,5 +1,5 @@
 // The shape of a piece's rows: from the transient on both repeat with the period.
-ghost use Prim.Native.Nat.{_+_, _≤_};
+ghost use Rattle.std.specs.Prelude.{◌+◌, ◌≤◌};
 
 #[derive(Clone, Copy)]
 pub struct Shape {

@@ -1,12 +1,8 @@
 // The situations of a walk, each with its number, linked in chains by a small hash.
-ghost use mathlib.Core.Path.{_≡_};
-ghost use Prim.Native.Nat.{ℕ, _+_, _≤_, _<_};
-ghost use lib.ListN.{length, set};
-ghost use Rattle·std.specs.Options.{Cases};
-ghost use Rattle·rows·specs.Chains.{chain as chain-of, nth, Heads, Links};
+ghost use Rattle.std.specs.Prelude.{◌≡◌, ℕ, ◌+◌, ◌<◌, ◌≤◌, length, set, MatchOption};
+ghost use Rattle.rows.specs.Chains.{chain as chain_of, nth, Heads, Links};
+
 use crate::situation::Situation;
-use crate::situation::SituationEq;
-use crate::situation::SituationPartialEq;
 
 // Of the items the first `count` are noted. A head or a link is 1 + a number, or 0 for none.
 #[derive(Drop)]
@@ -25,14 +21,14 @@ pub struct Situations {
 
 // The chain of a situation: any function of it would do, and this one spreads pairs of phases and sets of states.
 fn chain(s: Situation) -> usize
-    ensures { λ r. ⌜ r ≡ chain-of s ⌝ }
+    ensures { result ≡ chain_of s }
 {
     (s.a % 64 + 37 * (s.b % 64) + (s.set % 227) as usize) % 256
 }
 
 impl Situations {
     pub fn new() -> Situations
-        ensures { λ r. ⌜ r .count ≡ 0 ⌝ }
+        ensures { result.count ≡ 0 }
     {
         let none = Situation {
             a: 0,
@@ -51,7 +47,7 @@ impl Situations {
 
     // The number of a situation that equals s.
     pub fn find(&self, s: Situation) -> Option<usize>
-        ensures { λ r. ⌜ Cases r ((k : ℕ) → k < now (self .entry) .count → nth (now (self .entry) .items) k ≡ s → ⊥) (λ i. (i < now (self .entry) .count) × (nth (now (self .entry) .items) i ≡ s)) ⌝ }
+        ensures { MatchOption result ((k : ℕ) → k < self.now.count → nth self.now.items k ≡ s → ⊥) (λ i. (i < self.now.count) × (nth self.now.items i ≡ s)) }
     {
         let mut k = self.heads[chain(s)] as usize;
         while k > 0 {
@@ -64,9 +60,9 @@ impl Situations {
     }
 
     pub fn push(&mut self, s: Situation)
-        requires { ⌜ now self .count < 1024 ⌝ }
-        ensures items { λ _. ⌜ now (self .exit) .items ≡ set (now (self .entry) .items) (now (self .entry) .count) s ⌝ }
-        ensures count { λ _. ⌜ now (self .exit) .count ≡ now (self .entry) .count + 1 ⌝ }
+        requires { self.old.count < 1024 }
+        ensures items { self.new.items ≡ set self.old.items self.old.count s }
+        ensures count { self.new.count ≡ self.old.count + 1 }
     {
         let h = chain(s);
         self.items[self.count] = s;

@@ -1,15 +1,12 @@
 // Table: the set of states current at the tick, walked arc by arc.
-ghost use mathlib.Core.Bool.{true, false};
-ghost use mathlib.Core.Path.{_≡_};
-ghost use denote.Ref.{now as held};
-ghost use Rattle·std.specs.Options.{mapped};
-ghost use Rattle·rows·specs.Sets.{has as has-member};
-ghost use Rattle·rows·specs.Rules.Rule.{situation as a-situation};
-ghost use Rattle·rows·specs.Rules.Table.{weights, reached, table as the-table};
-use crate::rule::RowRule;
-use crate::rule::Tick;
-use crate::sets::has;
-use crate::sets::with;
+ghost use Rattle.std.specs.Prelude.{◌≡◌, true, false};
+ghost use Rattle.std.specs.Option.{option_map};
+ghost use Rattle.rows.specs.Sets.{has as has_member};
+ghost use Rattle.rows.specs.Rules.Rule.{situation as a_situation};
+ghost use Rattle.rows.specs.Rules.Table.{weights, reached, table as the_table};
+
+use crate::rule::{RowRule, Tick};
+use crate::sets::{has, with};
 use crate::situation::Situation;
 use algebra::algebra::Algebra;
 use algebra::arc::Arc;
@@ -22,16 +19,16 @@ pub struct Table<'a> {
 
 // Does the arc begin at a member of the set?
 fn begins(set: u64, arc: Arc) -> bool
-    ensures { λ r. ⌜ r ≡ has-member set (arc .from) ⌝ }
+    ensures { result ≡ has_member set arc.from }
 {
     arc.from < 64 && has(set, arc.from as usize)
 }
 
 // The weights of the set's arcs that stay, joined, of those that lead out, and the states that the first lead to.
 fn follow<V: Algebra>(arcs: &[Arc], set: u64) -> Tick<V>
-    ensures pause { λ r. ⌜ mapped means (r .pause) ≡ weights model set true (now (arcs .entry)) ⌝ }
-    ensures exit { λ r. ⌜ mapped means (r .exit) ≡ weights model set false (now (arcs .entry)) ⌝ }
-    ensures next { λ r. ⌜ r .next ≡ a-situation 0 0 (reached set (now (arcs .entry))) false false ⌝ }
+    ensures pause { option_map V.means result.pause ≡ weights V.model set true arcs.now }
+    ensures exit { option_map V.means result.exit ≡ weights V.model set false arcs.now }
+    ensures next { result.next ≡ a_situation 0 0 (reached set arcs.now) false false }
 {
     let mut pause = None;
     let mut exit = None;
@@ -57,10 +54,10 @@ fn follow<V: Algebra>(arcs: &[Arc], set: u64) -> Tick<V>
     Tick { pause, exit, next }
 }
 
-pub impl RowRule for Table<'_> as TableRule {
+impl RowRule for Table<'_> {
     ghost fits = { λ r s. Unit {0} };
 
-    ghost works = { λ r m cells. the-table m (held (r .arcs)) };
+    ghost works = { λ r m cells. the_table m r.arcs.now };
 
     fn first<V: Algebra>(&self, cells: &[Option<V>]) -> Situation {
         Situation {

@@ -1,22 +1,15 @@
 // Unrolling: a rule's rows, in their least shape, onto a shelf. Written once, for every rule and every algebra.
-ghost use mathlib.Core.Logic.{_⊎_};
-ghost use mathlib.Core.Path.{_≡_};
-ghost use Prim.Native.Nat.{ℕ, _+_, _*_, _≤_, _<_};
-ghost use lib.ListN.{length, getD, take, drop};
-ghost use Rattle·std.specs.Results.{Cases};
-ghost use Rattle·std.specs.declared.option.Option.the-variants.{None as absent};
-ghost use Rattle·rows·specs.Outcomes.{Refused};
-ghost use Rattle·rows·specs.Pieces.{meanings};
-ghost use Rattle·rows·specs.Unrolled.{Unrolls};
+ghost use Rattle.std.specs.Prelude.{◌≡◌, ℕ, ◌+◌, ◌*◌, ◌<◌, ◌≤◌, ◌⊎◌, length, take, drop, None as absent, MatchResult, slice_index_or};
+ghost use Rattle.rows.specs.Outcomes.{Refused};
+ghost use Rattle.rows.specs.Pieces.{meanings};
+ghost use Rattle.rows.specs.Unrolled.{Unrolls};
+
 use crate::fill::fill;
-use crate::least::least_period;
-use crate::least::least_transient;
-use crate::outcome::Unkept;
-use crate::outcome::Unrolled;
+use crate::least::{least_period, least_transient};
+use crate::outcome::{Unkept, Unrolled};
 use crate::rule::RowRule;
 use crate::shape::Shape;
-use crate::walk::Turn;
-use crate::walk::walk;
+use crate::walk::{Turn, walk};
 use algebra::algebra::Algebra;
 
 // The working cells, from 2,048 up to 4,096, are free afterwards.
@@ -25,10 +18,10 @@ pub fn unroll<R: RowRule, V: Algebra>(
     cells: &mut [Option<V>],
     shelf: usize,
 ) -> Result<Unrolled, Unkept>
-    requires { ⌜ 4096 ≤ length (now cells) ⌝ ∗ ⌜ shelf ≤ 15 ⌝ }
-    ensures past { λ _. ⌜ drop 4096 (now (cells .exit)) ≡ drop 4096 (now (cells .entry)) ⌝ }
-    ensures others { λ _. ⌜ ((j : ℕ) → j < 2048 → (j < 128 * shelf) ⊎ (128 * shelf + 128 ≤ j) → getD (now (cells .exit)) j absent ≡ getD (now (cells .entry)) j absent) ⌝ }
-    ensures cases { λ r. ⌜ (let over = R·RowRule .works (now (rule .entry)) (V·Algebra .model) (meanings (V·Algebra .means) (take 2048 (now (cells .entry)))) in Cases r (λ u. Unrolls over (u .reply) shelf (u .shape .transient) (u .shape .period) (meanings (V·Algebra .means) (take 2048 (now (cells .exit))))) (λ no. Refused over no × (take 2048 (now (cells .exit)) ≡ take 2048 (now (cells .entry))))) ⌝ }
+    requires { (4096 ≤ length cells.old) × (shelf ≤ 15) }
+    ensures past { drop 4096 cells.new ≡ drop 4096 cells.old }
+    ensures others { (j : ℕ) → j < 2048 → (j < 128 * shelf) ⊎ (128 * shelf + 128 ≤ j) → slice_index_or cells.new j absent ≡ slice_index_or cells.old j absent }
+    ensures cases { let over = R.RowRule.works rule.now V.Algebra.model (meanings V.Algebra.means (take 2048 cells.old)) in MatchResult result (λ u. Unrolls over u.reply shelf u.shape.transient u.shape.period (meanings V.Algebra.means (take 2048 cells.new))) (λ no. Refused over no × (take 2048 cells.new ≡ take 2048 cells.old)) }
 {
     let Some(Turn { number, earlier }) = walk(rule, cells) else {
         return Err(Unkept::NeverSoon);

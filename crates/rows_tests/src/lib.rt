@@ -1,4 +1,6 @@
 // The rows of small pieces, worked by each rule under each algebra.
+#![tactic(auto)]
+
 #[cfg(test)]
 mod bench;
 #[cfg(test)]

@@ -3,21 +3,15 @@ use crate::bench::*;
 use algebra::algebra::Algebra;
 use algebra::arc::Arc;
 use algebra::best::Best;
-use algebra::best::BestAlgebra;
 use algebra::label::Label;
 use algebra::pair::Pair;
-use algebra::pair::PairAlgebra;
 use algebra::ports::Ports;
-use algebra::ports::PortsAlgebra;
 use algebra::worst::Worst;
-use algebra::worst::WorstAlgebra;
 use rows::fork::Fork;
-use rows::fork::ForkRule;
-use rows::piece::Piece;
-use rows::piece::Row;
+use rows::piece::{Piece, Row};
 use rows::table::Table;
-use rows::table::TableRule;
-use std::test::*;
+use std::process::Abort;
+use std::test::Fail;
 
 fn arc(from: u8, to: u8, cycles: u32, ports: u32) -> Arc {
     Arc {
@@ -28,74 +22,85 @@ fn arc(from: u8, to: u8, cycles: u32, ports: u32) -> Arc {
 }
 
 // From state 0 by one of two states back to it.
-fn states<V: Algebra>(cells: &mut [Option<V>], shelf: usize) -> Result<Piece, Fail> {
+fn states<V: Algebra>(
+    rt: &impl Abort,
+    cells: &mut [Option<V>],
+    shelf: usize,
+) -> Result<Piece, Fail> {
     let arcs = [
         arc(0, 1, 5, 0b0001),
         arc(0, 2, 8, 0b0010),
         arc(1, 0, 3, 0b0100),
         arc(2, 0, 1, 0b1000),
     ];
-    unrolled(&Table { arcs: &arcs }, cells, shelf, (2, 0, 2))
+    unrolled(rt, &Table { arcs: &arcs }, cells, shelf, (2, 0, 2))
 }
 
 // The states beside a pause of 2 cycles on port 4.
-fn beside<V: Algebra>(cells: &mut [Option<V>], shelf: usize) -> Result<Piece, Fail> {
-    check(shelf <= 13)?;
-    let a = states(cells, shelf + 1)?;
+fn beside<V: Algebra>(
+    rt: &impl Abort,
+    cells: &mut [Option<V>],
+    shelf: usize,
+) -> Result<Piece, Fail> {
+    assert!(rt; shelf <= 13);
+    let a = states(rt, cells, shelf + 1)?;
     let label = Label {
         cycles: 2,
         ports: 0b10000,
     };
-    let b = pause(cells, shelf + 2, V::weigh(label))?;
-    unrolled(&Fork { a, b }, cells, shelf, (4, 1, 2))
+    let b = pause(rt, cells, shelf + 2, V::weigh(label));
+    unrolled(rt, &Fork { a, b }, cells, shelf, (4, 1, 2))
 }
 
 #[test]
-fn under_worst() -> Result<(), Fail> {
+fn under_worst(rt: HostRuntime) -> Result<(), Fail> {
     let mut room: [Option<Worst>; 4096] = [None; 4096];
     let cells = &mut room;
-    let table = states(cells, 0)?;
-    check_eq(
-        four(cells, table, Row::Pause)?,
-        [Some(8), Some(3), None, None],
-    )?;
-    let fork = beside(cells, 1)?;
-    check_eq(
-        four(cells, fork, Row::Pause)?,
-        [Some(10), Some(3), Some(8), None],
-    )
+    let table = states(&rt, cells, 0)?;
+    assert_eq!(rt;
+        four(&rt, cells, table, Row::Pause),
+        [Some(8), Some(3), None, None]
+    );
+    let fork = beside(&rt, cells, 1)?;
+    assert_eq!(rt;
+        four(&rt, cells, fork, Row::Pause),
+        [Some(10), Some(3), Some(8), None]
+    );
+    Ok(())
 }
 
 #[test]
-fn under_best() -> Result<(), Fail> {
+fn under_best(rt: HostRuntime) -> Result<(), Fail> {
     let mut room: [Option<Best>; 4096] = [None; 4096];
     let cells = &mut room;
-    let table = states(cells, 0)?;
-    check_eq(
-        four(cells, table, Row::Pause)?,
-        [Some(5), Some(1), None, None],
-    )?;
-    let fork = beside(cells, 1)?;
-    check_eq(
-        four(cells, fork, Row::Pause)?,
-        [Some(7), Some(1), Some(5), None],
-    )
+    let table = states(&rt, cells, 0)?;
+    assert_eq!(rt;
+        four(&rt, cells, table, Row::Pause),
+        [Some(5), Some(1), None, None]
+    );
+    let fork = beside(&rt, cells, 1)?;
+    assert_eq!(rt;
+        four(&rt, cells, fork, Row::Pause),
+        [Some(7), Some(1), Some(5), None]
+    );
+    Ok(())
 }
 
 #[test]
-fn under_ports() -> Result<(), Fail> {
+fn under_ports(rt: HostRuntime) -> Result<(), Fail> {
     let mut room: [Option<Ports>; 4096] = [None; 4096];
     let cells = &mut room;
-    let table = states(cells, 0)?;
-    check_eq(
-        four(cells, table, Row::Pause)?,
-        [Some(0b0011), Some(0b1100), None, None],
-    )?;
-    let fork = beside(cells, 1)?;
-    check_eq(
-        four(cells, fork, Row::Pause)?,
-        [Some(0b10011), Some(0b1100), Some(0b0011), None],
-    )
+    let table = states(&rt, cells, 0)?;
+    assert_eq!(rt;
+        four(&rt, cells, table, Row::Pause),
+        [Some(0b0011), Some(0b1100), None, None]
+    );
+    let fork = beside(&rt, cells, 1)?;
+    assert_eq!(rt;
+        four(&rt, cells, fork, Row::Pause),
+        [Some(0b10011), Some(0b1100), Some(0b0011), None]
+    );
+    Ok(())
 }
 
 // Both halves of a cell.
@@ -107,12 +112,13 @@ fn halves(cell: Option<Pair<Worst, Ports>>) -> Option<(u32, u32)> {
 }
 
 #[test]
-fn under_the_pair() -> Result<(), Fail> {
+fn under_the_pair(rt: HostRuntime) -> Result<(), Fail> {
     let mut room: [Option<Pair<Worst, Ports>>; 4096] = [None; 4096];
-    let fork = beside(&mut room, 0)?;
-    check_eq(fork.shelf, 0)?;
-    check_eq(halves(room[0]), Some((10, 0b10011)))?;
-    check_eq(halves(room[1]), Some((3, 0b1100)))?;
-    check_eq(halves(room[2]), Some((8, 0b0011)))?;
-    check_eq(halves(room[3]), None)
+    let fork = beside(&rt, &mut room, 0)?;
+    assert_eq!(rt; fork.shelf, 0);
+    assert_eq!(rt; halves(room[0]), Some((10, 0b10011)));
+    assert_eq!(rt; halves(room[1]), Some((3, 0b1100)));
+    assert_eq!(rt; halves(room[2]), Some((8, 0b0011)));
+    assert_eq!(rt; halves(room[3]), None);
+    Ok(())
 }

@@ -1,12 +1,10 @@
 -- The two ends of runs.
-use mathlib.Core.Path.{_≡_, refl}
-use Prim.Native.Nat.{ℕ}
-use native.Mathlib.Omega.{arith}
-use Rattle·runs·specs.Runs.{End, paused, left, both}
+use Rattle.std.proofs.Common.{◌≡◌, ℕ, refl, arith}
+use Rattle.runs.specs.Runs.{End, paused, left, both}
 
-pub left-not-paused : {P : Type 0} → left ≡ paused → P
-left-not-paused e = let z : _≡_ {A = ℕ} 0 1 = cc in absurd (omega arith)
+pub left_not_paused : {P : Type 0} → left ≡ paused → P
+left_not_paused e = let z : ◌≡◌ {A = ℕ} 0 1 = cc in absurd (omega arith)
 
-pub both-paused : (e : End) → both e paused ≡ paused
-both-paused paused = refl
-both-paused left = refl
+pub both_paused : (e : End) → both e paused ≡ paused
+both_paused paused = refl
+both_paused left = refl

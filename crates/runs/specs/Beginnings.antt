@@ -1,9 +1,8 @@
 -- A proper beginning of a run, of one tick or more, is a paused run of the same plan.
-use Prim.Native.Nat.{ℕ, _<_}
-use lib.ListN.{length, take}
-use Rattle·algebra.specs.declared.label.Label.{Label}
-use Rattle·runs·specs.Plan.{Plan}
-use Rattle·runs·specs.Runs.{End, paused, Ticks, Family, Runs}
+use Rattle.std.specs.Prelude.{ℕ, ◌<◌, length, take}
+use Rattle.algebra.specs.declared.label.Label.{Label}
+use Rattle.runs.specs.Plan.{Plan}
+use Rattle.runs.specs.Runs.{End, paused, Ticks, Family, Runs}
 
 -- of a family of runs
 abbrev pub Begins : {X : Type 0} → Family X → Type 0

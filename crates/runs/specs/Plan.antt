@@ -1,7 +1,6 @@
 -- Plans: what a program may do, in the subject's words.
 -- A plan is over what a tick may hold: labels, or labels with where they come from.
-use Prim.Native.Nat.{ℕ}
-use mathlib.Core.List.{List}
+use Rattle.std.specs.Prelude.{ℕ, List}
 
 -- where an arc of a table leads: to a state, or out
 pub data Lead : Type 0 where

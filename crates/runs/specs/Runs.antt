@@ -1,11 +1,8 @@
 -- The runs of a plan: lists of ticks, each of which has ended paused or left.
 -- Each kind of plan has an operator on families of runs; `Runs` only applies them.
-use mathlib.Core.Path.{_≡_}
-use mathlib.Core.Logic.{_⊎_}
-use mathlib.Core.List.{List, [], _∷_, _++_, List·Memᴰ as Among}
-use Prim.Native.Nat.{ℕ, zero, suc, _≤_, _<_}
-use lib.ListN.{length}
-use Rattle·runs·specs.Plan.{Lead, state, out, Arc, Plan, node, pause, table, choice, sequence, loop, fork, abort}
+use Rattle.std.specs.Prelude.{◌≡◌, ℕ, zero, suc, ◌<◌, ◌≤◌, ◌⊎◌, List, [], ◌∷◌, ◌++◌, length}
+use mathlib.Core.List.{Memᴰ as Among}
+use Rattle.runs.specs.Plan.{Lead, state, out, Arc, Plan, node, pause, table, choice, sequence, loop, fork, abort}
 
 pub data End : Type 0 where
   paused : End
@@ -40,14 +37,14 @@ module _ {X : Type 0} where
   abbrev pub tie : Ticks X → Ticks X → Ticks X
   tie [] ys = ys
   tie (x ∷ []) ys = over (x ∷ []) ys
-  tie (x ∷ x′ ∷ xs) ys = x ∷ tie (x′ ∷ xs) ys
+  tie (x ∷ x' ∷ xs) ys = x ∷ tie (x' ∷ xs) ys
 
   -- a run of A tied to a run of B
   pub record Tied (A B : Ticks X → Type 0) (ts : Ticks X) : Type 0 where
     pub first : Ticks X
     pub second : Ticks X
-    pub of-first : A first
-    pub of-second : B second
+    pub of_first : A first
+    pub of_second : B second
     pub made : ts ≡ tie first second
 
   -- k + 1 runs of A tied in a row
@@ -59,8 +56,8 @@ module _ {X : Type 0} where
   pub record Abreast (A B : Ticks X → Type 0) (ts : Ticks X) : Type 0 where
     pub first : Ticks X
     pub second : Ticks X
-    pub of-first : A first
-    pub of-second : B second
+    pub of_first : A first
+    pub of_second : B second
     pub even : length first ≡ length second
     pub made : ts ≡ over first second
 
@@ -77,7 +74,7 @@ module _ {X : Type 0} where
   -- ticks that follow arcs, one a tick, from where an arc led
   abbrev pub walked : List (Arc X) → Lead → Family X
   walked arcs at e [] = e ≡ ended at
-  walked arcs (state s) e (t ∷ ts) = (a : Arc X) × Among a arcs × (a .from ≡ s) × (t ≡ a .label ∷ []) × walked arcs (a .lead) e ts
+  walked arcs (state s) e (t ∷ ts) = (a : Arc X) × Among a arcs × (a.from ≡ s) × (t ≡ a.label ∷ []) × walked arcs a.lead e ts
   walked arcs out e (t ∷ ts) = ⊥
 
   -- one tick or more along arcs from state 0
@@ -100,23 +97,23 @@ module _ {X : Type 0} where
 
   -- a run of A and a run of B, tick by tick; a paused one is never the shorter
   pub record Forked (A B : Family X) (e : End) (ts : Ticks X) : Type 0 where
-    pub first-end : End
-    pub second-end : End
+    pub first_end : End
+    pub second_end : End
     pub first : Ticks X
     pub second : Ticks X
-    pub of-first : A first-end first
-    pub of-second : B second-end second
-    pub first-lasts : first-end ≡ paused → length second ≤ length first
-    pub second-lasts : second-end ≡ paused → length first ≤ length second
-    pub has-ended : e ≡ both first-end second-end
+    pub of_first : A first_end first
+    pub of_second : B second_end second
+    pub first_lasts : first_end ≡ paused → length second ≤ length first
+    pub second_lasts : second_end ≡ paused → length first ≤ length second
+    pub has_ended : e ≡ both first_end second_end
     pub made : ts ≡ over first second
 
   -- a run of H that leaves one tick after a paused run of A, so that its last tick stands alone
   pub record Cut (H A : Family X) (ts : Ticks X) : Type 0 where
     pub first : Ticks X
     pub second : Ticks X
-    pub of-first : H left first
-    pub of-second : A paused second
+    pub of_first : H left first
+    pub of_second : A paused second
     pub later : length first ≡ suc (length second)
     pub made : ts ≡ over first second
 

@@ -1,18 +1,15 @@
 -- When a recorded step spells a plan.
-use mathlib.Core.Path.{_≡_}
-use mathlib.Core.List.{List, _++_}
-use Prim.Native.Nat.{ℕ, _+_, _≤_, _<_}
-use lib.ListN.{length, getD, take, drop}
-use Rattle·algebra.specs.declared.label.Label.{Label}
-use Rattle·algebra.specs.declared.arc.Arc.{Arc as Recorded}
-use Rattle·runs·specs.declared.step.Step.{Step}
-use Rattle·runs·specs.declared.step.Step.the-variants.{Node, Pause, Table, Choice, Sequence, Repeat, Fork, Abort}
-use Rattle·runs·specs.Plan.{Arc, Plan, node, pause, table, choice, sequence, loop, fork, abort}
-use Rattle·runs·specs.Arcs.{plan-arcs}
+use Rattle.std.specs.Prelude.{◌≡◌, ℕ, ◌+◌, ◌<◌, ◌≤◌, List, ◌++◌, length, take, drop, slice_index_or}
+use Rattle.algebra.specs.declared.label.Label.{Label}
+use Rattle.algebra.specs.declared.arc.Arc.{Arc as Recorded}
+use Rattle.runs.specs.declared.step.Step.{Step}
+use Rattle.runs.specs.declared.step.Step.TheVariants.{Node, Pause, Table, Choice, Sequence, Repeat, Fork, Abort}
+use Rattle.runs.specs.Plan.{Arc, Plan, node, pause, table, choice, sequence, loop, fork, abort}
+use Rattle.runs.specs.Arcs.{plan_arcs}
 
 -- step i is within the list, and is s
 abbrev pub StepIs : List Step → ℕ → Step → Type 0
-StepIs steps i s = (i < length steps) × (getD steps i s ≡ s)
+StepIs steps i s = (i < length steps) × (slice_index_or steps i s ≡ s)
 
 -- step i is a table of these arcs, which stand in a row among the recorded ones
 pub record OfArcs (steps : List Step) (arcs : List Recorded) (i : ℕ) (list : List (Arc Label)) : Type 0 where
@@ -20,7 +17,7 @@ pub record OfArcs (steps : List Step) (arcs : List Recorded) (i : ℕ) (list : L
   pub count : ℕ
   pub is : StepIs steps i (Table first count)
   pub within : first + count ≤ length arcs
-  pub made : list ≡ plan-arcs (take count (drop first arcs))
+  pub made : list ≡ plan_arcs (take count (drop first arcs))
 
 -- step i is made of an earlier step, of which P holds
 pub record OverOne (steps : List Step) (i : ℕ) (make : ℕ → Step) (P : ℕ → Type 0) : Type 0 where
@@ -34,10 +31,10 @@ pub record OverTwo (steps : List Step) (i : ℕ) (make : ℕ → ℕ → Step) (
   pub first : ℕ
   pub second : ℕ
   pub is : StepIs steps i (make first second)
-  pub first-earlier : first < i
-  pub second-earlier : second < i
-  pub first-spelled : P first
-  pub second-spelled : Q second
+  pub first_earlier : first < i
+  pub second_earlier : second < i
+  pub first_spelled : P first
+  pub second_spelled : Q second
 
 -- step i is of the plan's kind, with its label or arcs, or over earlier steps that spell its parts
 abbrev pub Spells : (steps : List Step) (arcs : List Recorded) (i : ℕ) → Plan Label → Type 0
@@ -59,5 +56,5 @@ SpellingStays =
 -- a step spells at most one plan
 abbrev pub SpellsOne : Type 0
 SpellsOne =
-    (steps : List Step) (arcs : List Recorded) (i : ℕ) (plan plan′ : Plan Label)
-    → Spells steps arcs i plan → Spells steps arcs i plan′ → plan ≡ plan′
+    (steps : List Step) (arcs : List Recorded) (i : ℕ) (plan plan' : Plan Label)
+    → Spells steps arcs i plan → Spells steps arcs i plan' → plan ≡ plan'

@@ -2,17 +2,18 @@
 use borrow.Fn.World.{World}
 use denote.RattleType.{RattleType}
 use mir.Syntax.{Dict}
-use Rattle·algebra.specs.Model.{Laws}
-use Rattle·algebra.specs.contracts.algebra.Algebra.the-bound.{Met}
-use Rattle·algebra.specs.declared.algebra.Algebra.{Ghosts}
+use Rattle.std.specs.declared.clone.Clone.{Ghosts as CloneGhosts}
+use Rattle.algebra.specs.Model.{Laws}
+use Rattle.algebra.specs.contracts.algebra.Algebra.TheBound.{Met}
+use Rattle.algebra.specs.declared.algebra.Algebra.{Ghosts}
 
-pub laws-of : (w : World) {T : RattleType} {algebra : Ghosts (T .Denot)} {dict : Dict} → Met (w .𝓤) (w .H) (w .𝓜) (w .𝓖) (w .𝓡) (w .𝓡 .env) T algebra dict → Laws (algebra .model)
-laws-of w met = record {
-  join-assoc = met .«join_assoc»;
-  join-comm = met .«join_comm»;
-  join-self = met .«join_self»;
-  add-assoc = met .«add_assoc»;
-  add-comm = met .«add_comm»;
-  add-unit = met .«add_unit»;
-  add-join = met .«add_join»;
+pub laws_of : (w : World) {T : RattleType} {algebra : Ghosts T.Denot} {dict : Dict} {clone : CloneGhosts T.Denot} {clone_dict : Dict} → Met w.𝓛 w.𝓜 w.𝓡 w.𝓡.env T algebra dict clone clone_dict → Laws algebra.model
+laws_of w met = record {
+  join_assoc = met.join_assoc;
+  join_comm = met.join_comm;
+  join_self = met.join_self;
+  add_assoc = met.add_assoc;
+  add_comm = met.add_comm;
+  add_unit = met.add_unit;
+  add_join = met.add_join;
 }

@@ -1,137 +1,131 @@
 -- Every piece gives something at tick 0: pause or exit is present there, from the pieces that it is made of.
-use mathlib.Core.Bool.{Bool, true, false, not}
-use mathlib.Core.List.{List, [], _∷_, List·Memᴰ as Among, List·Memᴰ·head, List·Memᴰ·cases-cons, List·Memᴰ·not-nil}
-use mathlib.Core.Logic.{_⊎_, inl, inr, ⊎-elim}
-use mathlib.Core.Path.{_≡_, refl, sym, ap, _∙_}
-use Prim.Native.Nat.{ℕ, _≤_}
-use native.Mathlib.Omega.{arith}
-use lib.ListN.{length}
-use Rattle·std.specs.declared.option.Option.the-variants.{None, Some}
-use Rattle·std.specs.Options.{isSome}
-use Rattle·std.proofs.shelf.Tests.{false≢true, cases-bool, cond-true, cond-both, and-from, not-from-false}
-use Rattle·algebra.specs.declared.arc.Arc.{Arc}
-use Rattle·algebra.specs.Model.{Model}
-use Rattle·algebra.specs.Coefficients.{Coef, join, add}
-use Rattle·rows.specs.Sets.{has, joins}
-use Rattle·rows.specs.Pieces.{Rows, size, given-at, exit-at}
-use Rattle·rows.specs.Rules.Rule.{rows}
-use Rattle·rows.specs.Rules.Table as table-rule
-use Rattle·rows.specs.Rules.Table.{stays, current, weights}
-use Rattle·rows.specs.Rules.Loop as loop-rule
-use Rattle·shelves·specs.declared.call.Pairing.{Pairing}
-use Rattle·shelves·specs.declared.call.Pairing.the-variants.{Choice, Sequence, Fork, Abort}
-use Rattle·shelves·specs.Questions.{Begins, UpToNamed, pair-rule}
+use Rattle.std.proofs.Common.{◌≡◌, ℕ, ◌≤◌, Bool, true, false, not, ◌⊎◌, List, [], ◌∷◌, length, is_some, Some, None, sym, refl, ap, ◌∙◌, inl, inr, ⊎_elim, arith}
+use mathlib.Core.List.Memᴰ
+use mathlib.Core.List.{Memᴰ as Among}
+use Rattle.std.proofs.lemmas.Bool.{false≢true, cases_Bool, cond-true, cond_both, and_from, not_from_false}
+use Rattle.algebra.specs.declared.arc.Arc.{Arc}
+use Rattle.algebra.specs.Model.{Model}
+use Rattle.algebra.specs.Coefficients.{Coef, join, add}
+use Rattle.rows.specs.Sets.{has, joins}
+use Rattle.rows.specs.Pieces.{Rows, size, given_at, exit_at}
+use Rattle.rows.specs.Rules.Rule.{rows}
+use Rattle.rows.specs.Rules.Table as table_rule
+use Rattle.rows.specs.Rules.Table.{stays, current, weights}
+use Rattle.rows.specs.Rules.Loop as loop_rule
+use Rattle.shelves.specs.declared.call.Pairing.{Pairing}
+use Rattle.shelves.specs.declared.call.Pairing.TheVariants.{Choice, Sequence, Fork, Abort}
+use Rattle.shelves.specs.Questions.{Begins, UpToNamed, pair_rule}
 
 module _ (m : Model) where
   abbrev pub Present : Coef m → Type 0
-  Present c = isSome c ≡ true
+  Present c = is_some c ≡ true
 
   -- pause or exit is present at tick 0
   abbrev pub Alive : (ℕ → Coef m × Coef m) → Type 0
-  Alive row = Present (join m (row 0 .0) (row 0 .1))
+  Alive row = Present (join m (row 0).0 (row 0).1)
 
-  pub join-first : (a b : Coef m) → Present a → Present (join m a b)
-  join-first None b h = absurd (false≢true h)
-  join-first (Some x) None h = refl
-  join-first (Some x) (Some y) h = refl
+  pub join_first : (a b : Coef m) → Present a → Present (join m a b)
+  join_first None b h = absurd (false≢true h)
+  join_first (Some x) None h = refl
+  join_first (Some x) (Some y) h = refl
 
-  join-second : (a b : Coef m) → Present b → Present (join m a b)
-  join-second None b h = h
-  join-second (Some x) None h = refl
-  join-second (Some x) (Some y) h = refl
+  join_second : (a b : Coef m) → Present b → Present (join m a b)
+  join_second None b h = h
+  join_second (Some x) None h = refl
+  join_second (Some x) (Some y) h = refl
 
-  join-either : (a b : Coef m) → Present (join m a b) → Present a ⊎ Present b
-  join-either None b h = inr h
-  join-either (Some x) b h = inl refl
+  join_either : (a b : Coef m) → Present (join m a b) → Present a ⊎ Present b
+  join_either None b h = inr h
+  join_either (Some x) b h = inl refl
 
-  add-both : (a b : Coef m) → Present a → Present b → Present (add m a b)
-  add-both None b h k = absurd (false≢true h)
-  add-both (Some x) None h k = absurd (false≢true k)
-  add-both (Some x) (Some y) h k = refl
+  add_both : (a b : Coef m) → Present a → Present b → Present (add m a b)
+  add_both None b h k = absurd (false≢true h)
+  add_both (Some x) None h k = absurd (false≢true k)
+  add_both (Some x) (Some y) h k = refl
 
   -- the rows of two pieces at tick 0, p and e of the first, q and f of the second
   module _ (p e q f : Coef m) (first : Present (join m p e)) (second : Present (join m q f)) where
-    choice-present : Present (join m (join m p q) (join m e f))
-    choice-present = ⊎-elim
-        (λ h. join-first (join m p q) (join m e f) (join-first p q h))
-        (λ h. join-second (join m p q) (join m e f) (join-first e f h))
-        (join-either p e first)
+    choice_present : Present (join m (join m p q) (join m e f))
+    choice_present = ⊎_elim
+        (λ h. join_first (join m p q) (join m e f) (join_first p q h))
+        (λ h. join_second (join m p q) (join m e f) (join_first e f h))
+        (join_either p e first)
 
-    sequence-present : (x y : Coef m) → Present (join m (join m (join m p (add m e q)) x) (join m (add m e f) y))
-    sequence-present x y =
+    sequence_present : (x y : Coef m) → Present (join m (join m (join m p (add m e q)) x) (join m (add m e f) y))
+    sequence_present x y =
         let pause = join m (join m p (add m e q)) x in
         let exit = join m (add m e f) y in
-        ⊎-elim
-        (λ h. join-first pause exit (join-first (join m p (add m e q)) x (join-first p (add m e q) h)))
-        (λ h. ⊎-elim
-        (λ k. join-first pause exit (join-first (join m p (add m e q)) x (join-second p (add m e q) (add-both e q h k))))
-        (λ k. join-second pause exit (join-first (add m e f) y (add-both e f h k)))
-        (join-either q f second))
-        (join-either p e first)
+        ⊎_elim
+        (λ h. join_first pause exit (join_first (join m p (add m e q)) x (join_first p (add m e q) h)))
+        (λ h. ⊎_elim
+        (λ k. join_first pause exit (join_first (join m p (add m e q)) x (join_second p (add m e q) (add_both e q h k))))
+        (λ k. join_second pause exit (join_first (add m e f) y (add_both e f h k)))
+        (join_either q f second))
+        (join_either p e first)
 
-    fork-present : (u v : Coef m) → Present (join m (join m (add m p (join m (join m q f) v)) (add m (join m e u) q)) (join m (add m e (join m f v)) (add m u f)))
-    fork-present u v =
+    fork_present : (u v : Coef m) → Present (join m (join m (add m p (join m (join m q f) v)) (add m (join m e u) q)) (join m (add m e (join m f v)) (add m u f)))
+    fork_present u v =
         let pause = join m (add m p (join m (join m q f) v)) (add m (join m e u) q) in
         let exit = join m (add m e (join m f v)) (add m u f) in
-        ⊎-elim
-        (λ h. join-first pause exit (join-first (add m p (join m (join m q f) v)) (add m (join m e u) q) (add-both p (join m (join m q f) v) h (join-first (join m q f) v second))))
-        (λ h. ⊎-elim
-        (λ k. join-first pause exit (join-second (add m p (join m (join m q f) v)) (add m (join m e u) q) (add-both (join m e u) q (join-first e u h) k)))
-        (λ k. join-second pause exit (join-first (add m e (join m f v)) (add m u f) (add-both e (join m f v) h (join-first f v k))))
-        (join-either q f second))
-        (join-either p e first)
+        ⊎_elim
+        (λ h. join_first pause exit (join_first (add m p (join m (join m q f) v)) (add m (join m e u) q) (add_both p (join m (join m q f) v) h (join_first (join m q f) v second))))
+        (λ h. ⊎_elim
+        (λ k. join_first pause exit (join_second (add m p (join m (join m q f) v)) (add m (join m e u) q) (add_both (join m e u) q (join_first e u h) k)))
+        (λ k. join_second pause exit (join_first (add m e (join m f v)) (add m u f) (add_both e (join m f v) h (join_first f v k))))
+        (join_either q f second))
+        (join_either p e first)
 
-    abort-present : (u : Coef m) → Present u → Present (join m (add m p q) (join m (add m e u) (add m p f)))
-    abort-present u set =
+    abort_present : (u : Coef m) → Present u → Present (join m (add m p q) (join m (add m e u) (add m p f)))
+    abort_present u set =
         let exit = join m (add m e u) (add m p f) in
-        ⊎-elim
-        (λ h. ⊎-elim
-        (λ k. join-first (add m p q) exit (add-both p q h k))
-        (λ k. join-second (add m p q) exit (join-second (add m e u) (add m p f) (add-both p f h k)))
-        (join-either q f second))
-        (λ h. join-second (add m p q) exit (join-first (add m e u) (add m p f) (add-both e u h set)))
-        (join-either p e first)
+        ⊎_elim
+        (λ h. ⊎_elim
+        (λ k. join_first (add m p q) exit (add_both p q h k))
+        (λ k. join_second (add m p q) exit (join_second (add m e u) (add m p f) (add_both p f h k)))
+        (join_either q f second))
+        (λ h. join_second (add m p q) exit (join_first (add m e u) (add m p f) (add_both e u h set)))
+        (join_either p e first)
 
-  pub pair-alive : (kind : Pairing) (A B : Rows m) → Alive (given-at A) → Alive (given-at B) → Alive (rows (pair-rule m kind A B))
-  pair-alive Choice A B a b = choice-present (A .p 0) (A .e 0) (B .p 0) (B .e 0) a b
-  pair-alive Sequence A B a b = sequence-present (A .p 0) (A .e 0) (B .p 0) (B .e 0) a b (joins m (has 0) (B .p) (size B)) (joins m (has 0) (B .e) (size B))
-  pair-alive Fork A B a b = fork-present (A .p 0) (A .e 0) (B .p 0) (B .e 0) a b None None
-  pair-alive Abort A B a b = abort-present (A .p 0) (A .e 0) (B .p 0) (B .e 0) a b (Some (m .unit)) refl
+  pub pair_alive : (kind : Pairing) (A B : Rows m) → Alive (given_at A) → Alive (given_at B) → Alive (rows (pair_rule m kind A B))
+  pair_alive Choice A B a b = choice_present (A.p 0) (A.e 0) (B.p 0) (B.e 0) a b
+  pair_alive Sequence A B a b = sequence_present (A.p 0) (A.e 0) (B.p 0) (B.e 0) a b (joins m (has 0) B.p (size B)) (joins m (has 0) B.e (size B))
+  pair_alive Fork A B a b = fork_present (A.p 0) (A.e 0) (B.p 0) (B.e 0) a b None None
+  pair_alive Abort A B a b = abort_present (A.p 0) (A.e 0) (B.p 0) (B.e 0) a b (Some m.unit) refl
 
   -- where the piece does not leave at tick 0, it pauses there
-  pub loop-alive : (A : Rows m) → isSome (exit-at A 0) ≡ false → Alive (given-at A) → Alive (rows (loop-rule.loop m A))
-  loop-alive A never a =
-      let begun = add m (Some (m .unit)) (A .p 0) in
-      let rest = joins m (has 0) (A .p) (size A) in
-      ⊎-elim
-      (λ h. join-first (join m begun rest) None (join-first begun rest (add-both (Some (m .unit)) (A .p 0) refl h)))
+  pub loop_alive : (A : Rows m) → is_some (exit_at A 0) ≡ false → Alive (given_at A) → Alive (rows (loop_rule.loop m A))
+  loop_alive A never a =
+      let begun = add m (Some m.unit) (A.p 0) in
+      let rest = joins m (has 0) A.p (size A) in
+      ⊎_elim
+      (λ h. join_first (join m begun rest) None (join_first begun rest (add_both (Some m.unit) (A.p 0) refl h)))
       (λ h. absurd (false≢true (sym never ∙ h)))
-      (join-either (A .p 0) (A .e 0) a)
+      (join_either (A.p 0) (A.e 0) a)
 
   -- an arc of the set, in the row of its kind
   counted : (set : ℕ) (stay : Bool) (arcs : List Arc) (arc : Arc) → Among arc arcs → current set stay arc ≡ true → Present (weights m set stay arcs)
-  counted set stay [] arc among now = absurd (List·Memᴰ·not-nil among)
-  counted set stay (x ∷ arcs) arc among now = ⊎-elim
+  counted set stay [] arc among now = absurd (Memᴰ.not-nil among)
+  counted set stay (x ∷ arcs) arc among now = ⊎_elim
       (λ here.
       let cur : current set stay x ≡ true = ap (current set stay) (sym here) ∙ now in
-      ap isSome (cond-true (current set stay x) (join m (Some (m .weigh (x .label))) (weights m set stay arcs)) (weights m set stay arcs) cur)
-      ∙ join-first (Some (m .weigh (x .label))) (weights m set stay arcs) refl)
+      ap is_some (cond-true (current set stay x) (join m (Some (m.weigh x.label)) (weights m set stay arcs)) (weights m set stay arcs) cur)
+      ∙ join_first (Some (m.weigh x.label)) (weights m set stay arcs) refl)
       (λ there.
       let h : Present (weights m set stay arcs) = counted set stay arcs arc there now in
-      cond-both (current set stay x) (join m (Some (m .weigh (x .label))) (weights m set stay arcs)) (weights m set stay arcs) Present
-      (λ cur. join-second (Some (m .weigh (x .label))) (weights m set stay arcs) h)
+      cond_both (current set stay x) (join m (Some (m.weigh x.label)) (weights m set stay arcs)) (weights m set stay arcs) Present
+      (λ cur. join_second (Some (m.weigh x.label)) (weights m set stay arcs) h)
       (λ off. h))
-      (List·Memᴰ·cases-cons among)
+      (Memᴰ.cases_cons among)
 
   -- an arc begins at state 0
-  begun-alive : (arcs : List Arc) → Begins arcs 0 → Alive (rows (table-rule.table m arcs))
-  begun-alive arcs (arc, among, from) =
-      let here : has 1 (arc .from) ≡ true = ap (has 1) from in
-      ⊎-elim
-      (λ stay. join-first _ _ (counted 1 true arcs arc among (and-from _ _ here stay)))
-      (λ out. join-second _ _ (counted 1 false arcs arc among (and-from _ _ here (not-from-false _ out))))
-      (cases-bool (stays arc))
+  begun_alive : (arcs : List Arc) → Begins arcs 0 → Alive (rows (table_rule.table m arcs))
+  begun_alive arcs (arc, among, from) =
+      let here : has 1 arc.from ≡ true = ap (has 1) from in
+      ⊎_elim
+      (λ stay. join_first _ _ (counted 1 true arcs arc among (and_from _ _ here stay)))
+      (λ out. join_second _ _ (counted 1 false arcs arc among (and_from _ _ here (not_from_false _ out))))
+      (cases_Bool (stays arc))
 
-  pub table-alive : (arcs : List Arc) → 1 ≤ length arcs → ((q : ℕ) → UpToNamed arcs q → Begins arcs q) → Alive (rows (table-rule.table m arcs))
-  table-alive [] some all = absurd (omega arith)
-  table-alive (arc ∷ arcs) some all = begun-alive (arc ∷ arcs) (all 0 (arc, List·Memᴰ·head refl, inl (omega arith)))
+  pub table_alive : (arcs : List Arc) → 1 ≤ length arcs → ((q : ℕ) → UpToNamed arcs q → Begins arcs q) → Alive (rows (table_rule.table m arcs))
+  table_alive [] some all = absurd (omega arith)
+  table_alive (arc ∷ arcs) some all = begun_alive (arc ∷ arcs) (all 0 (arc, Among.head refl, inl (omega arith)))

@@ -1,53 +1,48 @@
 -- The phases of a figure are their own ticks, and where the algebra chooses, one of them has the figure.
-use mathlib.Core.Logic.{_⊎_, inl, inr, ⊎-elim, _≢_}
-use mathlib.Core.Path.{_≡_, refl, sym, ap, _∙_}
-use Prim.Native.Nat.{ℕ, zero, suc, _+_, _≤_, _<_}
-use native.Mathlib.Numerals.{add-one}
-use native.Mathlib.Omega.{arith}
-use Rattle·std.specs.declared.option.Option.the-variants.{None, Some}
-use Rattle·algebra.specs.Model.{Model}
-use Rattle·algebra.specs.Coefficients.{Coef, join}
-use Rattle·rows.specs.Phases.{phase, after}
-use Rattle·rows.specs.Pieces.{Rows, size, pause-at, exit-at}
-use Rattle·rows.proofs.PhaseLaws.{after-below}
-use Rattle·runs.specs.Figure.{figure}
-use Rattle·runs.specs.Joined.{joins}
+use Rattle.std.proofs.Common.{◌≡◌, ℕ, zero, suc, ◌+◌, ◌<◌, ◌≤◌, ◌≢◌, ◌⊎◌, Some, None, sym, refl, ap, ◌∙◌, inl, inr, ⊎_elim, add-one, arith}
+use Rattle.algebra.specs.Model.{Model}
+use Rattle.algebra.specs.Coefficients.{Coef, join}
+use Rattle.rows.specs.Phases.{phase, after}
+use Rattle.rows.specs.Pieces.{Rows, size, pause_at, exit_at}
+use Rattle.rows.proofs.PhaseLaws.{after_below}
+use Rattle.runs.specs.Figure.{figure}
+use Rattle.runs.specs.Joined.{joins}
 
 -- up to the end of the first round a tick is its own phase
-phase-own : (t d k : ℕ) → k < t + d → phase t d k ≡ k
-phase-own t d zero less = refl
-phase-own t d (suc k) less = ap (after t d) (phase-own t d k (omega arith)) ∙ after-below t d k less
+phase_own : (t d k : ℕ) → k < t + d → phase t d k ≡ k
+phase_own t d zero less = refl
+phase_own t d (suc k) less = ap (after t d) (phase_own t d k (omega arith)) ∙ after_below t d k less
 
 -- both rows joined at a phase are both rows joined at that tick
-pub both-at : (m : Model) (a : Rows m) (k : ℕ) → k < size a → (p e both : Coef m) → both ≡ join m p e → p ≡ a .p k → e ≡ a .e k → both ≡ join m (pause-at a k) (exit-at a k)
-both-at m a k less p e both h pause exit =
-    h ∙ ap (λ c. join m c e) pause ∙ ap (join m (a .p k)) exit
-    ∙ sym (ap (λ (j : ℕ). join m (a .p j) (a .e j)) (phase-own (a .transient) (a .period) k less))
+pub both_at : (m : Model) (a : Rows m) (k : ℕ) → k < size a → (p e both : Coef m) → both ≡ join m p e → p ≡ a.p k → e ≡ a.e k → both ≡ join m (pause_at a k) (exit_at a k)
+both_at m a k less p e both h pause exit =
+    h ∙ ap (λ c. join m c e) pause ∙ ap (join m (a.p k)) exit
+    ∙ sym (ap (λ (j : ℕ). join m (a.p j) (a.e j)) (phase_own a.transient a.period k less))
 
 -- a figure over one tick more
-pub figure-more : (m : Model) (p e : ℕ → Coef m) (k : ℕ) (all here more : Coef m) → more ≡ join m all here → all ≡ figure m p e k → here ≡ join m (p k) (e k) → more ≡ figure m p e (k + 1)
-figure-more m p e k all here more h before last =
+pub figure_more : (m : Model) (p e : ℕ → Coef m) (k : ℕ) (all here more : Coef m) → more ≡ join m all here → all ≡ figure m p e k → here ≡ join m (p k) (e k) → more ≡ figure m p e (k + 1)
+figure_more m p e k all here more h before last =
     h ∙ ap (λ c. join m c here) before ∙ ap (join m (figure m p e k)) last ∙ sym (ap (figure m p e) (add-one k))
 
-module _ (m : Model) (chosen : (a b : m .Carrier) → (m .join a b ≡ a) ⊎ (m .join a b ≡ b)) where
+module _ (m : Model) (chosen : (a b : m.Carrier) → (m.join a b ≡ a) ⊎ (m.join a b ≡ b)) where
   -- the join of two coefficients is one of them
-  join-one : (a b : Coef m) → (join m a b ≡ a) ⊎ (join m a b ≡ b)
-  join-one None b = inr refl
-  join-one (Some x) None = inl refl
-  join-one (Some x) (Some y) = ⊎-elim (λ e. inl (ap Some e)) (λ e. inr (ap Some e)) (chosen x y)
+  join_one : (a b : Coef m) → (join m a b ≡ a) ⊎ (join m a b ≡ b)
+  join_one None b = inr refl
+  join_one (Some x) None = inl refl
+  join_one (Some x) (Some y) = ⊎_elim (λ e. inl (ap Some e)) (λ e. inr (ap Some e)) (chosen x y)
 
   -- the join of one or more is one of them
-  joins-one : (f : ℕ → Coef m) (n : ℕ) → (k : ℕ) × (k < suc n) × (joins m f (suc n) ≡ f k)
-  joins-one f zero = (0, omega arith, refl)
-  joins-one f (suc n) =
-      let earlier = joins-one f n in
-      ⊎-elim
-      (λ e. (earlier .0, omega (arith, earlier .1), e ∙ earlier .2))
+  joins_one : (f : ℕ → Coef m) (n : ℕ) → (k : ℕ) × (k < suc n) × (joins m f (suc n) ≡ f k)
+  joins_one f zero = (0, omega arith, refl)
+  joins_one f (suc n) =
+      let earlier = joins_one f n in
+      ⊎_elim
+      (λ e. (earlier.0, omega (arith, earlier.1), e ∙ earlier.2))
       (λ e. (suc n, omega arith, e))
-      (join-one (joins m f (suc n)) (f (suc n)))
+      (join_one (joins m f (suc n)) (f (suc n)))
 
   -- so not all of them differ from it
   pub reached : (f : ℕ → Coef m) (n : ℕ) → 1 ≤ n → ((k : ℕ) → k < n → f k ≢ joins m f n) → ⊥
   reached f zero some differ = omega arith
   reached f (suc n) some differ =
-      let one = joins-one f n in differ (one .0) (one .1) (sym (one .2))
+      let one = joins_one f n in differ one.0 one.1 (sym one.2)

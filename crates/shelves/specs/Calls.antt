@@ -1,14 +1,11 @@
 -- The calls of a rack, with their arguments, a ticket as its shelf.
-use mathlib.Core.Bool.{Bool, true, false}
-use mathlib.Core.List.{List, [], _∷_, _++_, map}
-use Prim.Native.Nat.{ℕ}
-use Rattle·std.specs.declared.option.Option.{Option}
-use Rattle·algebra.specs.declared.arc.Arc.{Arc}
-use Rattle·algebra.specs.declared.label.Label.{Label}
-use Rattle·algebra.specs.Model.{Model}
-use Rattle·algebra.specs.Coefficients.{Coef}
-use Rattle·shelves·specs.declared.call.Pairing.{Pairing}
-use Rattle·shelves·specs.declared.refusal.Refusal.{Refusal}
+use Rattle.std.specs.Prelude.{ℕ, Bool, true, false, List, [], ◌∷◌, ◌++◌, map, Option}
+use Rattle.algebra.specs.declared.arc.Arc.{Arc}
+use Rattle.algebra.specs.declared.label.Label.{Label}
+use Rattle.algebra.specs.Model.{Model}
+use Rattle.algebra.specs.Coefficients.{Coef}
+use Rattle.shelves.specs.declared.call.Pairing.{Pairing}
+use Rattle.shelves.specs.declared.refusal.Refusal.{Refusal}
 
 -- the calls: leaves, two shelves put together, a loop, clear and report
 pub data Call : Type 0 where
@@ -33,7 +30,7 @@ pub record About : Type 0 where
 abbrev pub about : Call → About
 about (node k l) = record { fresh = k ∷ []; used = []; labels = l ∷ []; tables = []; looped = []; builds = true }
 about (pause k l) = record { fresh = k ∷ []; used = []; labels = l ∷ []; tables = []; looped = []; builds = true }
-about (table k arcs) = record { fresh = k ∷ []; used = []; labels = map (λ a. a .label) arcs; tables = arcs ∷ []; looped = []; builds = true }
+about (table k arcs) = record { fresh = k ∷ []; used = []; labels = map (λ a. a.label) arcs; tables = arcs ∷ []; looped = []; builds = true }
 about (pair kind a b) = record { fresh = []; used = a ∷ b ∷ []; labels = []; tables = []; looped = []; builds = true }
 about (loop k) = record { fresh = []; used = k ∷ []; labels = []; tables = []; looped = k ∷ []; builds = true }
 about (clear k) = record { fresh = []; used = k ∷ []; labels = []; tables = []; looped = []; builds = false }
@@ -41,7 +38,7 @@ about (report k) = record { fresh = []; used = k ∷ []; labels = []; tables = [
 
 -- the shelves that a call names
 abbrev pub named : Call → List ℕ
-named c = about c .fresh ++ about c .used
+named c = (about c).fresh ++ (about c).used
 
 -- what report gives: the figure, the first tick that reaches it, and the shape
 pub record Report (m : Model) : Type 0 where

@@ -1,10 +1,8 @@
 -- Calls that may change a rack, and their answers as histories have them.
-use Prim.Native.Nat.{ℕ}
-use Rattle·std.specs.declared.result.Result.{Result}
-use Rattle·std.specs.declared.result.Result.the-variants.{Ok, Err}
-use Rattle·algebra.specs.Model.{Model}
-use Rattle·shelves·specs.declared.refusal.Refusal.{Refusal}
-use Rattle·shelves·specs.Calls.{Call, node, pause, table, pair, loop, clear, report, Reply, accepted, refused}
+use Rattle.std.specs.Prelude.{ℕ, Ok, Err, Result}
+use Rattle.algebra.specs.Model.{Model}
+use Rattle.shelves.specs.declared.refusal.Refusal.{Refusal}
+use Rattle.shelves.specs.Calls.{Call, node, pause, table, pair, loop, clear, report, Reply, accepted, refused}
 
 -- a call that may change the rack: every one but report
 abbrev pub Changing : Call → Type 0

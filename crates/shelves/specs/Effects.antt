@@ -1,49 +1,42 @@
 -- What a call does, by its reply: the state afterwards as equations.
-use mathlib.Core.Bool.{Bool, true, false}
-use mathlib.Core.List.{List, [], _∷_, _++_}
-use mathlib.Core.Logic.{_≢_}
-use mathlib.Core.Path.{_≡_}
-use Prim.Native.Nat.{ℕ, zero, suc, _+_, _*_, _≤_, _<_}
-use lib.ListN.{length, getD, set}
-use Rattle·std.specs.declared.option.Option.{Option}
-use Rattle·std.specs.declared.option.Option.the-variants.{None, Some}
-use Rattle·algebra.specs.declared.arc.Arc.{Arc}
-use Rattle·algebra.specs.declared.label.Label.{Label}
-use Rattle·algebra.specs.Model.{Model}
-use Rattle·algebra.specs.Coefficients.{Coef, join}
-use Rattle·rows.specs.Pieces.{Rows, pause-at, exit-at}
-use Rattle·rows.specs.Repeats.{FirstRepeat}
-use Rattle·rows.specs.Rules.Rule.{Rule, at, rows}
-use Rattle·rows.specs.Rules.Table as table-rule
-use Rattle·rows.specs.Rules.Loop as loop-rule
-use Rattle·rows.specs.Unrolled.{Keeps}
-use Rattle·runs.specs.Figure.{figure as figure-of}
-use Rattle·runs.specs.declared.step.Step.{Step}
-use Rattle·runs.specs.declared.step.Step.the-variants as step
-use Rattle·shelves·specs.declared.call.Pairing.{Pairing}
-use Rattle·shelves·specs.declared.call.Pairing.the-variants.{Choice, Sequence, Fork, Abort}
-use Rattle·shelves·specs.Calls.{Call, node, pause, table, pair, loop, clear, report, Report, Reply, accepted, reported, refused}
-use Rattle·shelves·specs.Questions.{Yes, AllYes, FirstNo, pair-rule}
-use Rattle·shelves·specs.Refusals.{order}
-use Rattle·shelves·specs.State.{State, empty-shelf, shelf-at, shelf-rows}
+use Rattle.std.specs.Prelude.{◌≡◌, ℕ, zero, suc, ◌+◌, ◌*◌, ◌<◌, ◌≤◌, Bool, true, false, ◌≢◌, List, [], ◌∷◌, ◌++◌, length, Some, None, Option, slice_index_or, slice_set}
+use Rattle.algebra.specs.declared.arc.Arc.{Arc}
+use Rattle.algebra.specs.declared.label.Label.{Label}
+use Rattle.algebra.specs.Model.{Model}
+use Rattle.algebra.specs.Coefficients.{Coef, join}
+use Rattle.rows.specs.Pieces.{Rows, pause_at, exit_at}
+use Rattle.rows.specs.Repeats.{FirstRepeat}
+use Rattle.rows.specs.Rules.Rule.{Rule, at, rows}
+use Rattle.rows.specs.Rules.Table as table_rule
+use Rattle.rows.specs.Rules.Loop as loop_rule
+use Rattle.rows.specs.Unrolled.{Keeps}
+use Rattle.runs.specs.Figure.{figure as figure_of}
+use Rattle.runs.specs.declared.step.Step.{Step}
+use Rattle.runs.specs.declared.step.Step.TheVariants as step
+use Rattle.shelves.specs.declared.call.Pairing.{Pairing}
+use Rattle.shelves.specs.declared.call.Pairing.TheVariants.{Choice, Sequence, Fork, Abort}
+use Rattle.shelves.specs.Calls.{Call, node, pause, table, pair, loop, clear, report, Report, Reply, accepted, reported, refused}
+use Rattle.shelves.specs.Questions.{Yes, AllYes, FirstNo, pair_rule}
+use Rattle.shelves.specs.Refusals.{order}
+use Rattle.shelves.specs.State.{State, empty_shelf, shelf_at, shelf_rows}
 
 -- the rows of a node: its weight on exit at tick 0
-abbrev pub node-row : (m : Model) → Label → ℕ → Coef m × Coef m
-node-row m l zero = (None, Some (m .weigh l))
-node-row m l (suc n) = (None, None)
+abbrev pub node_row : (m : Model) → Label → ℕ → Coef m × Coef m
+node_row m l zero = (None, Some (m.weigh l))
+node_row m l (suc n) = (None, None)
 
 -- the rows of a pause: its weight on pause at tick 0, the unit on exit at tick 1
-abbrev pub pause-row : (m : Model) → Label → ℕ → Coef m × Coef m
-pause-row m l zero = (Some (m .weigh l), None)
-pause-row m l (suc zero) = (None, Some (m .unit))
-pause-row m l (suc (suc n)) = (None, None)
+abbrev pub pause_row : (m : Model) → Label → ℕ → Coef m × Coef m
+pause_row m l zero = (Some (m.weigh l), None)
+pause_row m l (suc zero) = (None, Some m.unit)
+pause_row m l (suc (suc n)) = (None, None)
 
 -- the step that two steps put together make
-abbrev pub pair-step : Pairing → ℕ → ℕ → Step
-pair-step Choice i j = step.Choice i j
-pair-step Sequence i j = step.Sequence i j
-pair-step Fork i j = step.Fork i j
-pair-step Abort i j = step.Abort i j
+abbrev pub pair_step : Pairing → ℕ → ℕ → Step
+pair_step Choice i j = step.Choice i j
+pair_step Sequence i j = step.Sequence i j
+pair_step Fork i j = step.Fork i j
+pair_step Abort i j = step.Abort i j
 
 -- cell j is one of shelf k's
 abbrev pub OfShelf : (k j : ℕ) → Type 0
@@ -52,30 +45,30 @@ OfShelf k j = (128 * k ≤ j) × (j < 128 * k + 128)
 module _ (m : Model) where
   -- the cells of shelf k are all absent
   abbrev pub Blank : ℕ → List (Coef m) → Type 0
-  Blank k cells = (j : ℕ) → OfShelf k j → getD cells j None ≡ None
+  Blank k cells = (j : ℕ) → OfShelf k j → slice_index_or cells j None ≡ None
 
   -- the rows are put on shelf k with their step and new arcs are recorded; every other shelf, and what is past, is as it was
-  pub record Puts (row : ℕ → Coef m × Coef m) (k : ℕ) (made : Step) (more : List Arc) (s s′ : State m) : Type 0 where
+  pub record Puts (row : ℕ → Coef m × Coef m) (k : ℕ) (made : Step) (more : List Arc) (s s' : State m) : Type 0 where
     pub transient : ℕ
     pub period : ℕ
     pub short : transient + period ≤ 64
-    pub keeps : Keeps m row k transient period (s′ .cells)
-    pub others : (j : ℕ) → (OfShelf k j → ⊥) → getD (s′ .cells) j None ≡ getD (s .cells) j None
-    pub shelves : s′ .shelves ≡ set (s .shelves) k (record { step = Some (length (s .steps)); transient = transient; period = period })
-    pub steps : s′ .steps ≡ s .steps ++ made ∷ []
-    pub arcs : s′ .arcs ≡ s .arcs ++ more
-    pub lent : s′ .lent ≡ s .lent
-    pub past : s′ .past ≡ s .past
+    pub keeps : Keeps m row k transient period s'.cells
+    pub others : (j : ℕ) → (OfShelf k j → ⊥) → slice_index_or s'.cells j None ≡ slice_index_or s.cells j None
+    pub shelves : s'.shelves ≡ slice_set s.shelves k (record { step = Some (length s.steps); transient = transient; period = period })
+    pub steps : s'.steps ≡ s.steps ++ made ∷ []
+    pub arcs : s'.arcs ≡ s.arcs ++ more
+    pub lent : s'.lent ≡ s.lent
+    pub past : s'.past ≡ s.past
 
   -- shelf k is emptied, and everything else is as it was
-  pub record Empties (k : ℕ) (s s′ : State m) : Type 0 where
-    pub blank : Blank k (s′ .cells)
-    pub others : (j : ℕ) → (OfShelf k j → ⊥) → getD (s′ .cells) j None ≡ getD (s .cells) j None
-    pub shelves : s′ .shelves ≡ set (s .shelves) k empty-shelf
-    pub steps : s′ .steps ≡ s .steps
-    pub arcs : s′ .arcs ≡ s .arcs
-    pub lent : s′ .lent ≡ s .lent
-    pub past : s′ .past ≡ s .past
+  pub record Empties (k : ℕ) (s s' : State m) : Type 0 where
+    pub blank : Blank k s'.cells
+    pub others : (j : ℕ) → (OfShelf k j → ⊥) → slice_index_or s'.cells j None ≡ slice_index_or s.cells j None
+    pub shelves : s'.shelves ≡ slice_set s.shelves k empty_shelf
+    pub steps : s'.steps ≡ s.steps
+    pub arcs : s'.arcs ≡ s.arcs
+    pub lent : s'.lent ≡ s.lent
+    pub past : s'.past ≡ s.past
 
   -- the reply is the number of the first situation that equals an earlier one
   abbrev pub Turns : Rule m → ℕ → Type 0
@@ -83,36 +76,36 @@ module _ (m : Model) where
 
   -- shelf k holds step i
   abbrev pub Holds : State m → (k i : ℕ) → Type 0
-  Holds s k i = shelf-at s k .step ≡ Some i
+  Holds s k i = (shelf_at s k).step ≡ Some i
 
   -- what an accepted call does
   abbrev pub Accepts : Call → ℕ → State m → State m → Type 0
-  Accepts (node k l) n s s′ = (n ≡ 0) × Puts (node-row m l) k (step.Node l) [] s s′
-  Accepts (pause k l) n s s′ = (n ≡ 0) × Puts (pause-row m l) k (step.Pause l) [] s s′
-  Accepts (table k new) n s s′ =
-      Turns (table-rule.table m new) n × Puts (rows (table-rule.table m new)) k (step.Table (length (s .arcs)) (length new)) new s s′
-  Accepts (pair kind a b) n s s′ =
-      let rule = pair-rule m kind (shelf-rows s a) (shelf-rows s b) in
-      Turns rule n × ((i : ℕ) × (j : ℕ) × (between : State m) × Holds s a i × Holds s b j × Puts (rows rule) a (pair-step kind i j) [] s between × Empties b between s′)
-  Accepts (loop k) n s s′ =
-      let rule = loop-rule.loop m (shelf-rows s k) in
-      Turns rule n × ((i : ℕ) × Holds s k i × Puts (rows rule) k (step.Repeat i) [] s s′)
-  Accepts (clear k) n s s′ = (n ≡ 0) × Empties k s s′
-  Accepts (report k) n s s′ = ⊥
+  Accepts (node k l) n s s' = (n ≡ 0) × Puts (node_row m l) k (step.Node l) [] s s'
+  Accepts (pause k l) n s s' = (n ≡ 0) × Puts (pause_row m l) k (step.Pause l) [] s s'
+  Accepts (table k new) n s s' =
+      Turns (table_rule.table m new) n × Puts (rows (table_rule.table m new)) k (step.Table (length s.arcs) (length new)) new s s'
+  Accepts (pair kind a b) n s s' =
+      let rule = pair_rule m kind (shelf_rows s a) (shelf_rows s b) in
+      Turns rule n × ((i : ℕ) × (j : ℕ) × (between : State m) × Holds s a i × Holds s b j × Puts (rows rule) a (pair_step kind i j) [] s between × Empties b between s')
+  Accepts (loop k) n s s' =
+      let rule = loop_rule.loop m (shelf_rows s k) in
+      Turns rule n × ((i : ℕ) × Holds s k i × Puts (rows rule) k (step.Repeat i) [] s s')
+  Accepts (clear k) n s s' = (n ≡ 0) × Empties k s s'
+  Accepts (report k) n s s' = ⊥
 
   -- the first tick of a report: where the algebra chooses, the least tick at which both rows joined are the figure
   abbrev pub FirstTick : Bool → Coef m → Rows m → Option ℕ → Type 0
   FirstTick true figure given None = ⊥
   FirstTick true figure given (Some t) =
-      (join m (pause-at given t) (exit-at given t) ≡ figure) × ((n : ℕ) → n < t → join m (pause-at given n) (exit-at given n) ≢ figure)
+      (join m (pause_at given t) (exit_at given t) ≡ figure) × ((n : ℕ) → n < t → join m (pause_at given n) (exit_at given n) ≢ figure)
   FirstTick false figure given tick = tick ≡ None
 
   -- what report gives of shelf k: the join of both rows over all phases, the first tick, and the shape
   pub record Reports (k : ℕ) (r : Report m) (s : State m) : Type 0 where
-    pub figure : r .figure ≡ figure-of m (pause-at (shelf-rows s k)) (exit-at (shelf-rows s k)) (shelf-at s k .transient + shelf-at s k .period)
-    pub tick : FirstTick (m .chooses) (r .figure) (shelf-rows s k) (r .tick)
-    pub transient : r .transient ≡ shelf-at s k .transient
-    pub period : r .period ≡ shelf-at s k .period
+    pub figure : r.figure ≡ figure_of m (pause_at (shelf_rows s k)) (exit_at (shelf_rows s k)) ((shelf_at s k).transient + (shelf_at s k).period)
+    pub tick : FirstTick m.chooses r.figure (shelf_rows s k) r.tick
+    pub transient : r.transient ≡ (shelf_at s k).transient
+    pub period : r.period ≡ (shelf_at s k).period
 
   -- report is the call that is answered by a report
   abbrev pub Tells : Call → Report m → State m → Type 0
@@ -126,12 +119,12 @@ module _ (m : Model) where
 
   -- what a call does: it is refused by the first no and changes nothing, or every question says yes
   abbrev pub Does : Call → Reply m → State m → State m → Type 0
-  Does c (refused r) s s′ = FirstNo (Yes m s c) order r × (s′ ≡ s)
-  Does c (accepted n) s s′ = AllYes (Yes m s c) order × Accepts c n s s′
-  Does c (reported r) s s′ = AllYes (Yes m s c) order × Tells c r s × (s′ ≡ s)
+  Does c (refused r) s s' = FirstNo (Yes m s c) order r × (s' ≡ s)
+  Does c (accepted n) s s' = AllYes (Yes m s c) order × Accepts c n s s'
+  Does c (reported r) s s' = AllYes (Yes m s c) order × Tells c r s × (s' ≡ s)
 
   -- what a list of calls does, one after the other, each with its reply
   abbrev pub DoesAll : List Call → List (Reply m) → State m → State m → Type 0
-  DoesAll [] replies s s′ = s′ ≡ s
-  DoesAll (c ∷ calls) [] s s′ = s′ ≡ s
-  DoesAll (c ∷ calls) (r ∷ replies) s s′ = (between : State m) × Does c r s between × DoesAll calls replies between s′
+  DoesAll [] replies s s' = s' ≡ s
+  DoesAll (c ∷ calls) [] s s' = s' ≡ s
+  DoesAll (c ∷ calls) (r ∷ replies) s s' = (between : State m) × Does c r s between × DoesAll calls replies between s'

@@ -1,36 +1,34 @@
 -- The state of a rack, from what it holds.
-use denote.Ref.{now}
-use Prim.Native.Nat.{_≤_}
-use lib.ListN.{length, take, drop}
-use Rattle·algebra.specs.Model.{Model}
-use Rattle·rows.specs.Pieces.{meanings}
-use Rattle·shelves·specs.declared.call.Call.{Call as Made}
-use Rattle·shelves·specs.declared.call.Call.the-variants as made
-use Rattle·shelves·specs.declared.core_state.Core.{Core}
-use Rattle·shelves·specs.Calls.{Call, node, pause, table, pair, loop, clear, report}
-use Rattle·shelves·specs.State.{State}
-use Rattle·shelves·specs.Tables.{shelves-of, steps-of, arcs-of}
+use Rattle.std.specs.Prelude.{◌≤◌, length, take, drop}
+use Rattle.algebra.specs.Model.{Model}
+use Rattle.rows.specs.Pieces.{meanings}
+use Rattle.shelves.specs.declared.call.Call.{Call as Made}
+use Rattle.shelves.specs.declared.call.Call.TheVariants as made
+use Rattle.shelves.specs.declared.core_state.Core.{Core}
+use Rattle.shelves.specs.Calls.{Call, node, pause, table, pair, loop, clear, report}
+use Rattle.shelves.specs.State.{State}
+use Rattle.shelves.specs.Tables.{shelves_of, steps_of, arcs_of}
 
-abbrev pub state-of : (m : Model) {V : Type 0} → (V → m .Carrier) → Core V → State m
-state-of m means core = record {
-  cells = meanings means (take 2048 (now (core .cells)));
-  shelves = shelves-of (core .shelves);
-  steps = steps-of (core .steps);
-  arcs = arcs-of (core .arcs);
-  lent = length (now (core .cells));
-  past = meanings means (drop 4096 (now (core .cells)));
+abbrev pub state_of : (m : Model) {V : Type 0} → (V → m.Carrier) → Core V → State m
+state_of m means core = record {
+  cells = meanings means (take 2048 core.cells.now);
+  shelves = shelves_of core.shelves;
+  steps = steps_of core.steps;
+  arcs = arcs_of core.arcs;
+  lent = length core.cells.now;
+  past = meanings means (drop 4096 core.cells.now);
 }
 
 -- enough cells are lent
 abbrev pub Room : {V : Type 0} → Core V → Type 0
-Room core = 4096 ≤ length (now (core .cells))
+Room core = 4096 ≤ length core.cells.now
 
 -- a call as a history has it: a table by its arcs
-abbrev pub call-of : Made → Call
-call-of (made.Node k l) = node k l
-call-of (made.Pause k l) = pause k l
-call-of (made.Table k arcs) = table k (now arcs)
-call-of (made.Pair kind a b) = pair kind a b
-call-of (made.Loop k) = loop k
-call-of (made.Clear k) = clear k
-call-of (made.Report k) = report k
+abbrev pub call_of : Made → Call
+call_of (made.Node k l) = node k l
+call_of (made.Pause k l) = pause k l
+call_of (made.Table k arcs) = table k arcs.now
+call_of (made.Pair kind a b) = pair kind a b
+call_of (made.Loop k) = loop k
+call_of (made.Clear k) = clear k
+call_of (made.Report k) = report k

@@ -1,14 +1,10 @@
 -- The state of a rack, as its promises speak of it.
-use mathlib.Core.List.{List}
-use Prim.Native.Nat.{ℕ}
-use lib.ListN.{getD}
-use Rattle·std.specs.declared.option.Option.{Option}
-use Rattle·std.specs.declared.option.Option.the-variants.{None}
-use Rattle·algebra.specs.declared.arc.Arc.{Arc}
-use Rattle·algebra.specs.Model.{Model}
-use Rattle·algebra.specs.Coefficients.{Coef}
-use Rattle·rows.specs.Pieces.{Rows, on-shelf}
-use Rattle·runs.specs.declared.step.Step.{Step}
+use Rattle.std.specs.Prelude.{ℕ, List, None, Option, slice_index_or}
+use Rattle.algebra.specs.declared.arc.Arc.{Arc}
+use Rattle.algebra.specs.Model.{Model}
+use Rattle.algebra.specs.Coefficients.{Coef}
+use Rattle.rows.specs.Pieces.{Rows, on_shelf}
+use Rattle.runs.specs.declared.step.Step.{Step}
 
 -- a shelf: the number of the step that it holds, None where it is empty, and the shape of its rows
 pub record ShelfState : Type 0 where
@@ -16,8 +12,8 @@ pub record ShelfState : Type 0 where
   pub transient : ℕ
   pub period : ℕ
 
-abbrev pub empty-shelf : ShelfState
-empty-shelf = record { step = None; transient = 0; period = 1 }
+abbrev pub empty_shelf : ShelfState
+empty_shelf = record { step = None; transient = 0; period = 1 }
 
 -- what the 2,048 cells of the shelves mean, the 16 shelves, the steps and arcs recorded, in their order, how many cells
 -- are lent, and what those from 4,096 on mean, which no call touches; the working cells 2,048 to 4,095 are left free
@@ -30,9 +26,9 @@ pub record State (m : Model) : Type 0 where
   pub past : List (Coef m)
 
 -- shelf k
-abbrev pub shelf-at : {m : Model} → State m → ℕ → ShelfState
-shelf-at s k = getD (s .shelves) k empty-shelf
+abbrev pub shelf_at : {m : Model} → State m → ℕ → ShelfState
+shelf_at s k = slice_index_or s.shelves k empty_shelf
 
 -- the rows that shelf k gives
-abbrev pub shelf-rows : {m : Model} → State m → ℕ → Rows m
-shelf-rows {m} s k = on-shelf m (s .cells) k (shelf-at s k .transient) (shelf-at s k .period)
+abbrev pub shelf_rows : {m : Model} → State m → ℕ → Rows m
+shelf_rows {m} s k = on_shelf m s.cells k (shelf_at s k).transient (shelf_at s k).period

@@ -1,25 +1,21 @@
 -- When a call is refused for what unrolling finds.
-use mathlib.Core.List.{List}
-use mathlib.Core.Path.{_≡_}
-use Prim.Native.Nat.{ℕ}
-use Rattle·std.specs.declared.result.Result.{Result}
-use Rattle·std.specs.declared.result.Result.the-variants.{Ok, Err}
-use Rattle·algebra.specs.declared.arc.Arc.{Arc}
-use Rattle·algebra.specs.Model.{Model}
-use Rattle·rows.specs.Rules.Rule.{Rule, rows}
-use Rattle·rows.specs.declared.outcome.Unkept.{Unkept}
-use Rattle·rows.specs.declared.outcome.Unkept.the-variants as found
-use Rattle·rows.specs.Unrolled as unrolled
-use Rattle·runs.specs.declared.step.Step.{Step}
-use Rattle·shelves·specs.declared.refusal.Refusal.{Refusal}
-use Rattle·shelves·specs.declared.refusal.Refusal.the-variants.{FewCells, NoShelf, SameShelf, ShelfTaken, ShelfEmpty, ManyCycles, BadArcs, StateWithoutArc, StepsFull, ArcsFull, LeavesAtOnce, NeverRepeats, TooLong}
-use Rattle·shelves·specs.Effects.{Puts, Turns}
-use Rattle·shelves·specs.State.{State}
+use Rattle.std.specs.Prelude.{◌≡◌, ℕ, List, Ok, Err, Result}
+use Rattle.algebra.specs.declared.arc.Arc.{Arc}
+use Rattle.algebra.specs.Model.{Model}
+use Rattle.rows.specs.Rules.Rule.{Rule, rows}
+use Rattle.rows.specs.declared.outcome.Unkept.{Unkept}
+use Rattle.rows.specs.declared.outcome.Unkept.TheVariants as found
+use Rattle.rows.specs.Unrolled as unrolled
+use Rattle.runs.specs.declared.step.Step.{Step}
+use Rattle.shelves.specs.declared.refusal.Refusal.{Refusal}
+use Rattle.shelves.specs.declared.refusal.Refusal.TheVariants.{FewCells, NoShelf, SameShelf, ShelfTaken, ShelfEmpty, ManyCycles, BadArcs, StateWithoutArc, StepsFull, ArcsFull, LeavesAtOnce, NeverRepeats, TooLong}
+use Rattle.shelves.specs.Effects.{Puts, Turns}
+use Rattle.shelves.specs.State.{State}
 
 -- the refusal for what unrolling found
-abbrev pub stop-of : Unkept → Refusal
-stop-of found.NeverSoon = NeverRepeats
-stop-of found.TooLong = TooLong
+abbrev pub stop_of : Unkept → Refusal
+stop_of found.NeverSoon = NeverRepeats
+stop_of found.TooLong = TooLong
 
 -- by 12 where no situation is repeated soon enough, by 13 where the least shape is too long, and by no other
 abbrev pub Stopped : {m : Model} → Rule m → Refusal → Type 0
@@ -39,5 +35,5 @@ Stopped rule LeavesAtOnce = ⊥
 
 -- what unrolling a rule onto shelf k does, by its answer
 abbrev pub Built : (m : Model) → Rule m → (k : ℕ) → Step → List Arc → State m → State m → Result ℕ Refusal → Type 0
-Built m rule k step more s s′ (Ok n) = Turns m rule n × Puts m (rows rule) k step more s s′
-Built m rule k step more s s′ (Err found) = Stopped rule found × (s′ ≡ s)
+Built m rule k step more s s' (Ok n) = Turns m rule n × Puts m (rows rule) k step more s s'
+Built m rule k step more s s' (Err found) = Stopped rule found × (s' ≡ s)

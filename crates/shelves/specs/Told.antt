@@ -1,30 +1,29 @@
 -- What a report tells, from what it holds.
-use Rattle·std.specs.declared.result.Result.{Result}
-use Rattle·std.specs.declared.result.Result.the-variants.{Ok, Err}
-use Rattle·std.specs.Options.{mapped}
-use Rattle·algebra.specs.Model.{Model}
-use Rattle·shelves·specs.declared.refusal.Refusal.{Refusal}
-use Rattle·shelves·specs.declared.report.Report.{Report as Made}
-use Rattle·shelves·specs.declared.reply.Reply.{Reply as Answer}
-use Rattle·shelves·specs.declared.reply.Reply.the-variants as answer
-use Rattle·shelves·specs.Calls.{Report, Reply, accepted, reported, refused}
+use Rattle.std.specs.Prelude.{Ok, Err, Result}
+use Rattle.std.specs.Option.{option_map}
+use Rattle.algebra.specs.Model.{Model}
+use Rattle.shelves.specs.declared.refusal.Refusal.{Refusal}
+use Rattle.shelves.specs.declared.report.Report.{Report as Made}
+use Rattle.shelves.specs.declared.reply.Reply.{Reply as Answer}
+use Rattle.shelves.specs.declared.reply.Reply.TheVariants as answer
+use Rattle.shelves.specs.Calls.{Report, Reply, accepted, reported, refused}
 
 -- the figure by its meaning, and the rest as it is
-abbrev pub report-of : (m : Model) {V : Type 0} → (V → m .Carrier) → Made V → Report m
-report-of m means r = record {
-  figure = mapped means (r .figure);
-  tick = r .tick;
-  transient = r .transient;
-  period = r .period;
+abbrev pub report_of : (m : Model) {V : Type 0} → (V → m.Carrier) → Made V → Report m
+report_of m means r = record {
+  figure = option_map means r.figure;
+  tick = r.tick;
+  transient = r.transient;
+  period = r.period;
 }
 
 -- a reply as a history has it
-abbrev pub reply-of : (m : Model) {V : Type 0} → (V → m .Carrier) → Answer V → Reply m
-reply-of m means (answer.Accepted n) = accepted n
-reply-of m means (answer.Reported r) = reported (report-of m means r)
-reply-of m means (answer.Refused found) = refused found
+abbrev pub reply_of : (m : Model) {V : Type 0} → (V → m.Carrier) → Answer V → Reply m
+reply_of m means (answer.Accepted n) = accepted n
+reply_of m means (answer.Reported r) = reported (report_of m means r)
+reply_of m means (answer.Refused found) = refused found
 
 -- the answer of a report alone, as a history has it
-abbrev pub shown : (m : Model) {V : Type 0} → (V → m .Carrier) → Result (Made V) Refusal → Reply m
-shown m means (Ok r) = reported (report-of m means r)
+abbrev pub shown : (m : Model) {V : Type 0} → (V → m.Carrier) → Result (Made V) Refusal → Reply m
+shown m means (Ok r) = reported (report_of m means r)
 shown m means (Err found) = refused found

@@ -1,18 +1,14 @@
 // Acting on a call whose questions before unrolling all said yes.
-ghost use Rattle·shelves·specs.Calls.{node as node-call, pause as pause-call, table as table-call, pair as pair-call, loop as loop-call, clear as clear-call, report as report-call, reported};
-ghost use Rattle·shelves·specs.Effects.{Does};
-ghost use Rattle·shelves·specs.Held.{state-of, Room};
-ghost use Rattle·shelves·specs.Questions.{Yes, AllYes};
-ghost use Rattle·shelves·specs.Refusals.{early};
-ghost use Rattle·shelves·specs.Told.{reply-of, report-of};
-use crate::building::empty;
-use crate::building::put_node;
-use crate::building::put_pause;
+ghost use Rattle.shelves.specs.Calls.{node as Node-call, pause as pause_call, table as table_call, pair as pair_call, loop as loop_call, clear as clear_call, report as report_call, reported};
+ghost use Rattle.shelves.specs.Effects.{Does};
+ghost use Rattle.shelves.specs.Held.{state_of, Room};
+ghost use Rattle.shelves.specs.Questions.{Yes, AllYes};
+ghost use Rattle.shelves.specs.Refusals.{early};
+ghost use Rattle.shelves.specs.Told.{reply_of, report_of};
+
+use crate::building::{empty, put_node, put_pause};
 use crate::call::Pairing;
-use crate::composing::piece;
-use crate::composing::put_loop;
-use crate::composing::put_pair;
-use crate::composing::put_table;
+use crate::composing::{piece, put_loop, put_pair, put_table};
 use crate::core_state::Core;
 use crate::reply::Reply;
 use crate::report::Report;
@@ -22,24 +18,24 @@ use algebra::arc::Arc;
 use algebra::label::Label;
 
 pub fn act_node<V: Algebra>(core: &mut Core<V>, shelf: u8, label: Label) -> Reply<V>
-    requires { ⌜ Room (now core) ⌝ ∗ ⌜ AllYes (Yes model (state-of model means (now core)) (node-call shelf label)) early ⌝ }
-    ensures { λ r. ⌜ Does model (node-call shelf label) (reply-of model means r) (state-of model means (now (core .entry))) (state-of model means (now (core .exit))) ⌝ }
+    requires { (Room core.old) × (AllYes (Yes V.model (state_of V.model V.means core.old) (Node-call shelf label)) early) }
+    ensures { Does V.model (Node-call shelf label) (reply_of V.model V.means result) (state_of V.model V.means core.old) (state_of V.model V.means core.new) }
 {
     put_node(core, shelf as usize, label);
     Reply::Accepted(0)
 }
 
 pub fn act_pause<V: Algebra>(core: &mut Core<V>, shelf: u8, label: Label) -> Reply<V>
-    requires { ⌜ Room (now core) ⌝ ∗ ⌜ AllYes (Yes model (state-of model means (now core)) (pause-call shelf label)) early ⌝ }
-    ensures { λ r. ⌜ Does model (pause-call shelf label) (reply-of model means r) (state-of model means (now (core .entry))) (state-of model means (now (core .exit))) ⌝ }
+    requires { (Room core.old) × (AllYes (Yes V.model (state_of V.model V.means core.old) (pause_call shelf label)) early) }
+    ensures { Does V.model (pause_call shelf label) (reply_of V.model V.means result) (state_of V.model V.means core.old) (state_of V.model V.means core.new) }
 {
     put_pause(core, shelf as usize, label);
     Reply::Accepted(0)
 }
 
 pub fn act_table<V: Algebra>(core: &mut Core<V>, shelf: u8, arcs: &[Arc]) -> Reply<V>
-    requires { ⌜ Room (now core) ⌝ ∗ ⌜ AllYes (Yes model (state-of model means (now core)) (table-call shelf (now arcs))) early ⌝ }
-    ensures { λ r. ⌜ Does model (table-call shelf (now (arcs .entry))) (reply-of model means r) (state-of model means (now (core .entry))) (state-of model means (now (core .exit))) ⌝ }
+    requires { (Room core.old) × (AllYes (Yes V.model (state_of V.model V.means core.old) (table_call shelf arcs.now)) early) }
+    ensures { Does V.model (table_call shelf arcs.now) (reply_of V.model V.means result) (state_of V.model V.means core.old) (state_of V.model V.means core.new) }
 {
     match put_table(core, shelf as usize, arcs) {
         Ok(number) => Reply::Accepted(number),
@@ -48,8 +44,8 @@ pub fn act_table<V: Algebra>(core: &mut Core<V>, shelf: u8, arcs: &[Arc]) -> Rep
 }
 
 pub fn act_loop<V: Algebra>(core: &mut Core<V>, shelf: u8) -> Reply<V>
-    requires { ⌜ Room (now core) ⌝ ∗ ⌜ AllYes (Yes model (state-of model means (now core)) (loop-call shelf)) early ⌝ }
-    ensures { λ r. ⌜ Does model (loop-call shelf) (reply-of model means r) (state-of model means (now (core .entry))) (state-of model means (now (core .exit))) ⌝ }
+    requires { (Room core.old) × (AllYes (Yes V.model (state_of V.model V.means core.old) (loop_call shelf)) early) }
+    ensures { Does V.model (loop_call shelf) (reply_of V.model V.means result) (state_of V.model V.means core.old) (state_of V.model V.means core.new) }
 {
     let k = shelf as usize;
     let i = core.shelves.at(k).step.unwrap_or(0);
@@ -60,24 +56,24 @@ pub fn act_loop<V: Algebra>(core: &mut Core<V>, shelf: u8) -> Reply<V>
 }
 
 pub fn act_clear<V: Algebra>(core: &mut Core<V>, shelf: u8) -> Reply<V>
-    requires { ⌜ Room (now core) ⌝ ∗ ⌜ AllYes (Yes model (state-of model means (now core)) (clear-call shelf)) early ⌝ }
-    ensures { λ r. ⌜ Does model (clear-call shelf) (reply-of model means r) (state-of model means (now (core .entry))) (state-of model means (now (core .exit))) ⌝ }
+    requires { (Room core.old) × (AllYes (Yes V.model (state_of V.model V.means core.old) (clear_call shelf)) early) }
+    ensures { Does V.model (clear_call shelf) (reply_of V.model V.means result) (state_of V.model V.means core.old) (state_of V.model V.means core.new) }
 {
     empty(core, shelf as usize);
     Reply::Accepted(0)
 }
 
 pub fn act_report<V: Algebra>(core: &Core<V>, shelf: u8) -> Report<V>
-    requires { ⌜ Room (now core) ⌝ ∗ ⌜ AllYes (Yes model (state-of model means (now core)) (report-call shelf)) early ⌝ }
-    ensures { λ r. ⌜ Does model (report-call shelf) (reported (report-of model means r)) (state-of model means (now (core .entry))) (state-of model means (now (core .entry))) ⌝ }
+    requires { (Room core.now) × (AllYes (Yes V.model (state_of V.model V.means core.now) (report_call shelf)) early) }
+    ensures { Does V.model (report_call shelf) (reported (report_of V.model V.means result)) (state_of V.model V.means core.now) (state_of V.model V.means core.now) }
 {
     let shown = piece(&core.shelves, shelf as usize);
     report(&*core.cells, shown)
 }
 
 pub fn act_pair<V: Algebra>(core: &mut Core<V>, kind: Pairing, first: u8, second: u8) -> Reply<V>
-    requires { ⌜ Room (now core) ⌝ ∗ ⌜ AllYes (Yes model (state-of model means (now core)) (pair-call kind first second)) early ⌝ }
-    ensures { λ r. ⌜ Does model (pair-call kind first second) (reply-of model means r) (state-of model means (now (core .entry))) (state-of model means (now (core .exit))) ⌝ }
+    requires { (Room core.old) × (AllYes (Yes V.model (state_of V.model V.means core.old) (pair_call kind first second)) early) }
+    ensures { Does V.model (pair_call kind first second) (reply_of V.model V.means result) (state_of V.model V.means core.old) (state_of V.model V.means core.new) }
 {
     let a = first as usize;
     let b = second as usize;

@@ -1,18 +1,13 @@
 // Answering a call: the first no of its questions, or what it does.
-ghost use Rattle·shelves·specs.Calls.{report as report-call};
-ghost use Rattle·shelves·specs.Effects.{Does};
-ghost use Rattle·shelves·specs.Held.{state-of, call-of, Room};
-ghost use Rattle·shelves·specs.Promise.{Answers};
-ghost use Rattle·shelves·specs.Questions.{Yes, AllYes};
-ghost use Rattle·shelves·specs.Refusals.{early};
-ghost use Rattle·shelves·specs.Told.{reply-of, shown};
-use crate::acting::act_clear;
-use crate::acting::act_loop;
-use crate::acting::act_node;
-use crate::acting::act_pair;
-use crate::acting::act_pause;
-use crate::acting::act_report;
-use crate::acting::act_table;
+ghost use Rattle.shelves.specs.Calls.{report as report_call};
+ghost use Rattle.shelves.specs.Effects.{Does};
+ghost use Rattle.shelves.specs.Held.{state_of, call_of, Room};
+ghost use Rattle.shelves.specs.Promise.{Answers};
+ghost use Rattle.shelves.specs.Questions.{Yes, AllYes};
+ghost use Rattle.shelves.specs.Refusals.{early};
+ghost use Rattle.shelves.specs.Told.{reply_of, shown};
+
+use crate::acting::{act_clear, act_loop, act_node, act_pair, act_pause, act_report, act_table};
 use crate::asks::first_no;
 use crate::call::Call;
 use crate::core_state::Core;
@@ -23,8 +18,8 @@ use algebra::algebra::Algebra;
 
 // What a call does whose questions before unrolling all said yes.
 fn act<V: Algebra>(core: &mut Core<V>, call: Call) -> Reply<V>
-    requires { ⌜ Room (now core) ⌝ ∗ ⌜ AllYes (Yes model (state-of model means (now core)) (call-of call)) early ⌝ }
-    ensures { λ r. ⌜ Does model (call-of (call .entry)) (reply-of model means r) (state-of model means (now (core .entry))) (state-of model means (now (core .exit))) ⌝ }
+    requires { (Room core.old) × (AllYes (Yes V.model (state_of V.model V.means core.old) (call_of call)) early) }
+    ensures { Does V.model (call_of call.entry) (reply_of V.model V.means result) (state_of V.model V.means core.old) (state_of V.model V.means core.new) }
 {
     match call {
         Call::Node { shelf, label } => act_node(core, shelf, label),
@@ -43,9 +38,9 @@ fn act<V: Algebra>(core: &mut Core<V>, call: Call) -> Reply<V>
 
 // The answer to a call, with the whole promise.
 pub fn answer<V: Algebra>(core: &mut Core<V>, call: Call) -> Reply<V>
-    requires { ⌜ Room (now core) ⌝ }
-    ensures answers { λ r. ⌜ Answers model (call-of (call .entry)) (reply-of model means r) (state-of model means (now (core .entry))) (state-of model means (now (core .exit))) ⌝ }
-    ensures room { λ _. ⌜ Room (now (core .exit)) ⌝ }
+    requires { Room core.old }
+    ensures answers { Answers V.model (call_of call.entry) (reply_of V.model V.means result) (state_of V.model V.means core.old) (state_of V.model V.means core.new) }
+    ensures room { Room core.new }
 {
     match first_no(core, call) {
         Some(found) => Reply::Refused(found),
@@ -55,8 +50,8 @@ pub fn answer<V: Algebra>(core: &mut Core<V>, call: Call) -> Reply<V>
 
 // The answer to a report, which only looks.
 pub fn look<V: Algebra>(core: &Core<V>, shelf: u8) -> Result<Report<V>, Refusal>
-    requires { ⌜ Room (now core) ⌝ }
-    ensures { λ r. ⌜ Answers model (report-call shelf) (shown model means r) (state-of model means (now (core .entry))) (state-of model means (now (core .entry))) ⌝ }
+    requires { Room core.now }
+    ensures { Answers V.model (report_call shelf) (shown V.model V.means result) (state_of V.model V.means core.now) (state_of V.model V.means core.now) }
 {
     match first_no(core, Call::report(shelf)) {
         Some(found) => Err(found),

@@ -1,16 +1,13 @@
 // The questions of a table's arcs.
-ghost use mathlib.Core.List.{map};
-ghost use mathlib.Core.Logic.{_⊎_};
-ghost use Prim.Native.Nat.{ℕ, _≤_, _<_};
-ghost use Rattle·std.specs.Orderings.{Decides};
-ghost use Rattle·std.specs.shelf.Lists.{All};
-ghost use Rattle·shelves·specs.Questions.{LawfulArc, UpToNamed, Begins};
-use algebra::arc::Arc;
-use algebra::arc::OUT;
+ghost use Rattle.std.specs.Prelude.{ℕ, ◌<◌, ◌≤◌, ◌⊎◌, map, Decides};
+ghost use Rattle.std.specs.List.{AllByRecursion};
+ghost use Rattle.shelves.specs.Questions.{LawfulArc, UpToNamed, Begins};
+
+use algebra::arc::{Arc, OUT};
 
 // Are all cycles within the limit?
 pub fn light(arcs: &[Arc]) -> bool
-    ensures { λ r. ⌜ Decides r (All (λ l. l .cycles ≤ 1073741823) (map (λ a. a .label) (now (arcs .entry)))) ⌝ }
+    ensures { Decides result (AllByRecursion (λ l. l.cycles ≤ 1073741823) (map (λ a. a.label) arcs.now)) }
 {
     for arc in arcs {
         if !arc.label.allowed() {
@@ -22,14 +19,14 @@ pub fn light(arcs: &[Arc]) -> bool
 
 // Does the arc lead from a state to a state or out?
 fn lawful_arc(arc: Arc) -> bool
-    ensures { λ r. ⌜ Decides r (LawfulArc arc) ⌝ }
+    ensures { Decides result (LawfulArc arc) }
 {
     (arc.from <= 63) & ((arc.to <= 63) | (arc.to == OUT))
 }
 
 // Does every arc?
 pub fn lawful(arcs: &[Arc]) -> bool
-    ensures { λ r. ⌜ Decides r (All LawfulArc (now (arcs .entry))) ⌝ }
+    ensures { Decides result (AllByRecursion LawfulArc arcs.now) }
 {
     for arc in arcs {
         if !lawful_arc(*arc) {
@@ -41,7 +38,7 @@ pub fn lawful(arcs: &[Arc]) -> bool
 
 // Does some arc begin at the state?
 fn begun(arcs: &[Arc], state: usize) -> bool
-    ensures { λ r. ⌜ Decides r (Begins (now (arcs .entry)) state) ⌝ }
+    ensures { Decides result (Begins arcs.now state) }
 {
     for arc in arcs {
         if arc.from as usize == state {
@@ -53,7 +50,7 @@ fn begun(arcs: &[Arc], state: usize) -> bool
 
 // How many states an arc names, with those below: up to the one it begins at, and up to the one it leads to.
 fn reach(arc: Arc) -> usize
-    ensures { λ r. ⌜ ((q : ℕ) → (q < r → (q ≤ arc .from) ⊎ ((q ≤ arc .to) × (arc .to ≤ 63))) × ((q ≤ arc .from) ⊎ ((q ≤ arc .to) × (arc .to ≤ 63)) → q < r)) ⌝ }
+    ensures { (q : ℕ) → (q < result → (q ≤ arc.from) ⊎ ((q ≤ arc.to) × (arc.to ≤ 63))) × ((q ≤ arc.from) ⊎ ((q ≤ arc.to) × (arc.to ≤ 63)) → q < result) }
 {
     let from = arc.from as usize + 1;
     if arc.to <= 63 {
@@ -65,7 +62,7 @@ fn reach(arc: Arc) -> usize
 
 // How many states are named by some arc, with those below.
 fn states(arcs: &[Arc]) -> usize
-    ensures { λ r. ⌜ ((q : ℕ) → (q < r → UpToNamed (now (arcs .entry)) q) × (UpToNamed (now (arcs .entry)) q → q < r)) ⌝ }
+    ensures { (q : ℕ) → (q < result → UpToNamed arcs.now q) × (UpToNamed arcs.now q → q < result) }
 {
     let mut most = 0;
     for arc in arcs {
@@ -76,7 +73,7 @@ fn states(arcs: &[Arc]) -> usize
 
 // Does every state up to the highest named begin an arc?
 pub fn complete(arcs: &[Arc]) -> bool
-    ensures { λ r. ⌜ Decides r ((q : ℕ) → UpToNamed (now (arcs .entry)) q → Begins (now (arcs .entry)) q) ⌝ }
+    ensures { Decides result ((q : ℕ) → UpToNamed arcs.now q → Begins arcs.now q) }
 {
     for q in 0..states(arcs) {
         if !begun(arcs, q) {

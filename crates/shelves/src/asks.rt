@@ -1,35 +1,24 @@
 // Asking a call's questions in their order.
-ghost use mathlib.Core.Bool.{false, not};
-ghost use mathlib.Core.Path.{_≡_};
-ghost use Prim.Native.Nat.{_+_, _*_, _≤_};
-ghost use lib.ListN.{length, getD, take};
-ghost use Rattle·std.specs.declared.option.Option.the-variants.{None as absent};
-ghost use Rattle·std.specs.Orderings.{Decides};
-ghost use Rattle·std.specs.shelf.Lists.{All};
-ghost use Rattle·rows.specs.Pieces.{meanings};
-ghost use Rattle·std.specs.Options.{isSome, Cases};
-ghost use Rattle·shelves·specs.Calls.{about};
-ghost use Rattle·shelves·specs.Held.{call-of, state-of, Room};
-ghost use Rattle·shelves·specs.Questions.{Yes, AllYes, FirstNo};
-ghost use Rattle·shelves·specs.Refusals.{early};
+ghost use Rattle.std.specs.Prelude.{◌≡◌, ◌+◌, ◌*◌, ◌≤◌, false, not, length, take, is_some, None as absent, Decides, MatchOption, slice_index_or};
+ghost use Rattle.std.specs.List.{AllByRecursion};
+ghost use Rattle.rows.specs.Pieces.{meanings};
+ghost use Rattle.shelves.specs.Calls.{about};
+ghost use Rattle.shelves.specs.Held.{call_of, state_of, Room};
+ghost use Rattle.shelves.specs.Questions.{Yes, AllYes, FirstNo};
+ghost use Rattle.shelves.specs.Refusals.{early};
+
 use crate::call::Call;
 use crate::core_state::Core;
-use crate::questions::apart;
-use crate::questions::going;
-use crate::questions::measured;
-use crate::questions::numbered;
-use crate::questions::occupied;
-use crate::questions::recordable;
-use crate::questions::roomy;
-use crate::questions::tabular;
-use crate::questions::vacant;
+use crate::questions::{
+    apart, going, measured, numbered, occupied, recordable, roomy, tabular, vacant,
+};
 use crate::refusal::Refusal;
 use algebra::algebra::Algebra;
 
 // Is the exit of shelf k absent at tick 0?
 fn stays<V: Algebra>(cells: &[Option<V>], k: u8) -> bool
-    requires { ⌜ 4096 ≤ length (now cells) ⌝ }
-    ensures { λ r. ⌜ isSome (getD (meanings means (take 2048 (now (cells .entry)))) (128 * k + 64 + 0) absent) ≡ not r ⌝ }
+    requires { 4096 ≤ length cells.now }
+    ensures { is_some (slice_index_or (meanings V.means (take 2048 cells.now)) (128 * k + 64 + 0) absent) ≡ not result }
 {
     if k > 15 {
         return true;
@@ -39,8 +28,8 @@ fn stays<V: Algebra>(cells: &[Option<V>], k: u8) -> bool
 
 // Is a loop's exit absent at tick 0?
 fn staying<V: Algebra>(cells: &[Option<V>], call: Call) -> bool
-    requires { ⌜ 4096 ≤ length (now cells) ⌝ }
-    ensures { λ r. ⌜ Decides r (All (λ k. isSome (getD (meanings means (take 2048 (now (cells .entry)))) (128 * k + 64 + 0) absent) ≡ false) (about (call-of (call .entry)) .looped)) ⌝ }
+    requires { 4096 ≤ length cells.now }
+    ensures { Decides result (AllByRecursion (λ k. is_some (slice_index_or (meanings V.means (take 2048 cells.now)) (128 * k + 64 + 0) absent) ≡ false) (about (call_of call.entry)).looped) }
 {
     match call {
         Call::Loop { shelf } => stays(cells, shelf),
@@ -55,8 +44,8 @@ fn staying<V: Algebra>(cells: &[Option<V>], call: Call) -> bool
 
 // The first no among the questions that come before unrolling.
 pub fn first_no<V: Algebra>(core: &Core<V>, call: Call) -> Option<Refusal>
-    requires { ⌜ Room (now core) ⌝ }
-    ensures { λ r. ⌜ Cases r (AllYes (Yes model (state-of model means (now (core .entry))) (call-of (call .entry))) early) (λ no. FirstNo (Yes model (state-of model means (now (core .entry))) (call-of (call .entry))) early no) ⌝ }
+    requires { Room core.now }
+    ensures { MatchOption result (AllYes (Yes V.model (state_of V.model V.means core.now) (call_of call.entry)) early) (λ no. FirstNo (Yes V.model (state_of V.model V.means core.now) (call_of call.entry)) early no) }
 {
     if !numbered(call) {
         return Some(Refusal::NoShelf);

@@ -1,20 +1,14 @@
 // Building: what an accepted call does to what a rack holds.
-ghost use mathlib.Core.List.{[], _∷_, _++_};
-ghost use mathlib.Core.Path.{_≡_};
-ghost use Prim.Native.Nat.{_≤_, _<_};
-ghost use denote.Ref.{now as held};
-ghost use lib.ListN.{length, set, take};
-ghost use Rattle·std.specs.declared.option.Option.the-variants.{Some as present};
-ghost use Rattle·rows.specs.Pieces.{meanings};
-ghost use Rattle·runs.specs.declared.step.Step.the-variants.{Node as node-step, Pause as pause-step};
-ghost use Rattle·shelves·specs.Effects.{Puts, Empties, node-row, pause-row};
-ghost use Rattle·shelves·specs.Held.{state-of, Room};
-ghost use Rattle·shelves·specs.Stops.{stop-of, Built};
-ghost use Rattle·shelves·specs.Tables.{shelves-of, steps-of};
+ghost use Rattle.std.specs.Prelude.{◌≡◌, ◌<◌, ◌≤◌, [], ◌∷◌, ◌++◌, length, take, set, Some as present};
+ghost use Rattle.rows.specs.Pieces.{meanings};
+ghost use Rattle.runs.specs.declared.step.Step.TheVariants.{Node as node_step, Pause as pause_step};
+ghost use Rattle.shelves.specs.Effects.{Puts, Empties, node_row, pause_row};
+ghost use Rattle.shelves.specs.Held.{state_of, Room};
+ghost use Rattle.shelves.specs.Stops.{stop_of, Built};
+ghost use Rattle.shelves.specs.Tables.{shelves_of, steps_of};
+
 use crate::core_state::Core;
-use crate::leaves::blank;
-use crate::leaves::write_node;
-use crate::leaves::write_pause;
+use crate::leaves::{blank, write_node, write_pause};
 use crate::refusal::Refusal;
 use crate::shelf::Shelf;
 use algebra::algebra::Algebra;
@@ -27,11 +21,11 @@ use runs::step::Step;
 
 // Records a step, and notes it with the shape of its rows on shelf k.
 fn settle<V: Algebra>(core: &mut Core<V>, k: usize, shape: Shape, step: Step)
-    requires { ⌜ k ≤ 15 ⌝ ∗ ⌜ now core .steps .count < 512 ⌝ }
-    ensures cells { λ _. ⌜ now (core .exit) .cells ≡ now (core .entry) .cells ⌝ }
-    ensures shelves { λ _. ⌜ shelves-of (now (core .exit) .shelves) ≡ set (shelves-of (now (core .entry) .shelves)) k (record { step = present (length (steps-of (now (core .entry) .steps))); transient = shape .transient; period = shape .period }) ⌝ }
-    ensures steps { λ _. ⌜ steps-of (now (core .exit) .steps) ≡ steps-of (now (core .entry) .steps) ++ step ∷ [] ⌝ }
-    ensures arcs { λ _. ⌜ now (core .exit) .arcs ≡ now (core .entry) .arcs ⌝ }
+    requires { (k ≤ 15) × (core.old.steps.count < 512) }
+    ensures cells { core.new.cells ≡ core.old.cells }
+    ensures shelves { shelves_of core.new.shelves ≡ set (shelves_of core.old.shelves) k (record { step = present (length (steps_of core.old.steps)); transient = shape.transient; period = shape.period }) }
+    ensures steps { steps_of core.new.steps ≡ steps_of core.old.steps ++ step ∷ [] }
+    ensures arcs { core.new.arcs ≡ core.old.arcs }
 {
     let number = Some(core.steps.count);
     core.shelves.put(
@@ -46,8 +40,8 @@ fn settle<V: Algebra>(core: &mut Core<V>, k: usize, shape: Shape, step: Step)
 
 // Puts a node's rows on shelf k and records its step.
 pub fn put_node<V: Algebra>(core: &mut Core<V>, k: usize, label: Label)
-    requires { ⌜ Room (now core) ⌝ ∗ ⌜ k ≤ 15 ⌝ ∗ ⌜ now core .steps .count < 512 ⌝ }
-    ensures { λ _. ⌜ Puts model (node-row model label) k (node-step label) [] (state-of model means (now (core .entry))) (state-of model means (now (core .exit))) ⌝ }
+    requires { (Room core.old) × ((k ≤ 15) × (core.old.steps.count < 512)) }
+    ensures { Puts V.model (node_row V.model label) k (node_step label) [] (state_of V.model V.means core.old) (state_of V.model V.means core.new) }
 {
     let cells = std::mem::replace(&mut core.cells, &mut []);
     write_node(cells, k, label);
@@ -65,8 +59,8 @@ pub fn put_node<V: Algebra>(core: &mut Core<V>, k: usize, label: Label)
 
 // Puts a pause's rows on shelf k and records its step.
 pub fn put_pause<V: Algebra>(core: &mut Core<V>, k: usize, label: Label)
-    requires { ⌜ Room (now core) ⌝ ∗ ⌜ k ≤ 15 ⌝ ∗ ⌜ now core .steps .count < 512 ⌝ }
-    ensures { λ _. ⌜ Puts model (pause-row model label) k (pause-step label) [] (state-of model means (now (core .entry))) (state-of model means (now (core .exit))) ⌝ }
+    requires { (Room core.old) × ((k ≤ 15) × (core.old.steps.count < 512)) }
+    ensures { Puts V.model (pause_row V.model label) k (pause_step label) [] (state_of V.model V.means core.old) (state_of V.model V.means core.new) }
 {
     let cells = std::mem::replace(&mut core.cells, &mut []);
     write_pause(cells, k, label);
@@ -84,8 +78,8 @@ pub fn put_pause<V: Algebra>(core: &mut Core<V>, k: usize, label: Label)
 
 // Empties shelf k.
 pub fn empty<V: Algebra>(core: &mut Core<V>, k: usize)
-    requires { ⌜ Room (now core) ⌝ ∗ ⌜ k ≤ 15 ⌝ }
-    ensures { λ _. ⌜ Empties model k (state-of model means (now (core .entry))) (state-of model means (now (core .exit))) ⌝ }
+    requires { (Room core.old) × (k ≤ 15) }
+    ensures { Empties V.model k (state_of V.model V.means core.old) (state_of V.model V.means core.new) }
 {
     let cells = std::mem::replace(&mut core.cells, &mut []);
     blank(cells, k);
@@ -95,7 +89,7 @@ pub fn empty<V: Algebra>(core: &mut Core<V>, k: usize)
 
 // The refusal for what unrolling found.
 fn stop(no: Unkept) -> Refusal
-    ensures { λ r. ⌜ r ≡ stop-of no ⌝ }
+    ensures { result ≡ stop_of no }
 {
     match no {
         Unkept::NeverSoon => Refusal::NeverRepeats,
@@ -110,9 +104,9 @@ pub fn build<R: RowRule, V: Algebra>(
     k: usize,
     step: Step,
 ) -> Result<usize, Refusal>
-    requires { ⌜ Room (now core) ⌝ ∗ ⌜ k ≤ 15 ⌝ ∗ ⌜ now core .steps .count < 512 ⌝ }
-    ensures does { λ r. ⌜ Built (V·Algebra .model) (R·RowRule .works (now (rule .entry)) (V·Algebra .model) (meanings (V·Algebra .means) (take 2048 (held (now (core .entry) .cells))))) k step [] (state-of (V·Algebra .model) (V·Algebra .means) (now (core .entry))) (state-of (V·Algebra .model) (V·Algebra .means) (now (core .exit))) r ⌝ }
-    ensures arcs { λ _. ⌜ now (core .exit) .arcs ≡ now (core .entry) .arcs ⌝ }
+    requires { (Room core.old) × ((k ≤ 15) × (core.old.steps.count < 512)) }
+    ensures does { Built V.Algebra.model (R.RowRule.works rule.now V.Algebra.model (meanings V.Algebra.means (take 2048 core.old.cells.now))) k step [] (state_of V.Algebra.model V.Algebra.means core.old) (state_of V.Algebra.model V.Algebra.means core.new) result }
+    ensures arcs { core.new.arcs ≡ core.old.arcs }
 {
     let cells = std::mem::replace(&mut core.cells, &mut []);
     let kept = unroll(rule, cells, k);

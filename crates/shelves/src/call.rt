@@ -1,7 +1,8 @@
 // The calls of a rack, as values.
-ghost use mathlib.Core.Path.{_≡_};
-ghost use Rattle·shelves·specs.Calls.{node as node-call, pause as pause-call, table as table-call, pair as pair-call, loop as loop-call, clear as clear-call, report as report-call};
-ghost use Rattle·shelves·specs.Held.{call-of};
+ghost use Rattle.std.specs.Prelude.{◌≡◌};
+ghost use Rattle.shelves.specs.Calls.{node as Node-call, pause as pause_call, table as table_call, pair as pair_call, loop as loop_call, clear as clear_call, report as report_call};
+ghost use Rattle.shelves.specs.Held.{call_of};
+
 use algebra::arc::Arc;
 use algebra::label::Label;
 
@@ -46,25 +47,25 @@ pub enum Call<'a> {
 
 impl<'a> Call<'a> {
     pub fn node(shelf: u8, label: Label) -> Call<'a>
-        ensures { λ r. ⌜ call-of r ≡ node-call shelf label ⌝ }
+        ensures { call_of result ≡ Node-call shelf label }
     {
         Call::Node { shelf, label }
     }
 
     pub fn pause(shelf: u8, label: Label) -> Call<'a>
-        ensures { λ r. ⌜ call-of r ≡ pause-call shelf label ⌝ }
+        ensures { call_of result ≡ pause_call shelf label }
     {
         Call::Pause { shelf, label }
     }
 
     pub fn table(shelf: u8, arcs: &'a [Arc]) -> Call<'a>
-        ensures { λ r. ⌜ call-of r ≡ table-call shelf (now (arcs .entry)) ⌝ }
+        ensures { call_of result ≡ table_call shelf arcs.now }
     {
         Call::Table { shelf, arcs }
     }
 
     pub fn pair(kind: Pairing, first: u8, second: u8) -> Call<'a>
-        ensures { λ r. ⌜ call-of r ≡ pair-call kind first second ⌝ }
+        ensures { call_of result ≡ pair_call kind first second }
     {
         Call::Pair {
             kind,
@@ -75,19 +76,19 @@ impl<'a> Call<'a> {
 
     // The call loop, whose name is a word of the language.
     pub fn repeat(shelf: u8) -> Call<'a>
-        ensures { λ r. ⌜ call-of r ≡ loop-call shelf ⌝ }
+        ensures { call_of result ≡ loop_call shelf }
     {
         Call::Loop { shelf }
     }
 
     pub fn clear(shelf: u8) -> Call<'a>
-        ensures { λ r. ⌜ call-of r ≡ clear-call shelf ⌝ }
+        ensures { call_of result ≡ clear_call shelf }
     {
         Call::Clear { shelf }
     }
 
     pub fn report(shelf: u8) -> Call<'a>
-        ensures { λ r. ⌜ call-of r ≡ report-call shelf ⌝ }
+        ensures { call_of result ≡ report_call shelf }
     {
         Call::Report { shelf }
     }

@@ -1,10 +1,11 @@
 // A call that may change a rack of either kind, answered by a result.
-ghost use Rattle·std.specs.Results.{Cases};
-ghost use Rattle·std.specs.shelf.Lists.{All};
-ghost use Rattle·shelves·specs.Held.{state-of, call-of, Room};
-ghost use Rattle·shelves·specs.Promise.{Answers};
-ghost use Rattle·shelves·specs.Changing.{Changing, answered};
-ghost use Rattle·shelves·specs.Filling.{IsFilled, filled-by};
+ghost use Rattle.std.specs.Prelude.{OnOk};
+ghost use Rattle.std.specs.List.{AllByRecursion};
+ghost use Rattle.shelves.specs.Held.{state_of, call_of, Room};
+ghost use Rattle.shelves.specs.Promise.{Answers};
+ghost use Rattle.shelves.specs.Changing.{Changing, answered};
+ghost use Rattle.shelves.specs.Filling.{IsFilled, filled_by};
+
 use crate::answering::answer;
 use crate::call::Call;
 use crate::core_state::Core;
@@ -13,10 +14,10 @@ use crate::reply::Reply;
 use algebra::algebra::Algebra;
 
 pub fn change<V: Algebra>(core: &mut Core<V>, call: Call) -> Result<usize, Refusal>
-    requires { ⌜ Room (now core) ⌝ ∗ ⌜ Changing (call-of call) ⌝ }
-    ensures answers { λ r. ⌜ Answers model (call-of (call .entry)) (answered model r) (state-of model means (now (core .entry))) (state-of model means (now (core .exit))) ⌝ }
-    ensures fills { λ r. ⌜ Cases r (λ _. All (IsFilled (state-of model means (now (core .exit)))) (filled-by (call-of (call .entry)))) (λ _. Unit {0}) ⌝ }
-    ensures room { λ _. ⌜ Room (now (core .exit)) ⌝ }
+    requires { (Room core.old) × (Changing (call_of call)) }
+    ensures answers { Answers V.model (call_of call.entry) (answered V.model result) (state_of V.model V.means core.old) (state_of V.model V.means core.new) }
+    ensures fills { OnOk result (AllByRecursion (IsFilled (state_of V.model V.means core.new)) (filled_by (call_of call.entry))) }
+    ensures room { Room core.new }
 {
     match answer(core, call) {
         Reply::Accepted(number) => Ok(number),

@@ -1,17 +1,15 @@
 // Composing: a table, a loop, or two shelves put together, unrolled onto a shelf.
-ghost use mathlib.Core.List.{[]};
-ghost use mathlib.Core.Path.{_≡_};
-ghost use Prim.Native.Nat.{_+_, _≤_, _<_};
-ghost use lib.ListN.{length, getD};
-ghost use Rattle·rows.specs.Rules.Loop.{loop as loop-rule};
-ghost use Rattle·rows.specs.Rules.Table.{table as table-rule};
-ghost use Rattle·runs.specs.declared.step.Step.the-variants.{Repeat as loop-step, Table as table-step};
-ghost use Rattle·shelves·specs.Effects.{pair-step};
-ghost use Rattle·shelves·specs.Held.{state-of, Room};
-ghost use Rattle·shelves·specs.Questions.{pair-rule};
-ghost use Rattle·shelves·specs.State.{shelf-rows, empty-shelf};
-ghost use Rattle·shelves·specs.Stops.{Built};
-ghost use Rattle·shelves·specs.Tables.{shelves-of};
+ghost use Rattle.std.specs.Prelude.{◌≡◌, ◌+◌, ◌<◌, ◌≤◌, [], length, slice_index_or};
+ghost use Rattle.rows.specs.Rules.Loop.{loop as loop_rule};
+ghost use Rattle.rows.specs.Rules.Table.{table as table_rule};
+ghost use Rattle.runs.specs.declared.step.Step.TheVariants.{Repeat as loop_step, Table as table_step};
+ghost use Rattle.shelves.specs.Effects.{pair_step};
+ghost use Rattle.shelves.specs.Held.{state_of, Room};
+ghost use Rattle.shelves.specs.Questions.{pair_rule};
+ghost use Rattle.shelves.specs.State.{shelf_rows, empty_shelf};
+ghost use Rattle.shelves.specs.Stops.{Built};
+ghost use Rattle.shelves.specs.Tables.{shelves_of};
+
 use crate::building::build;
 use crate::call::Pairing;
 use crate::core_state::Core;
@@ -20,26 +18,20 @@ use crate::tables::Shelves;
 use algebra::algebra::Algebra;
 use algebra::arc::Arc;
 use rows::abort::Abort;
-use rows::abort::AbortRule;
 use rows::choice::Choice;
-use rows::choice::ChoiceRule;
 use rows::fork::Fork;
-use rows::fork::ForkRule;
 use rows::piece::Piece;
 use rows::repeat::Repeat;
-use rows::repeat::RepeatRule;
 use rows::sequence::Sequence;
-use rows::sequence::SequenceRule;
 use rows::table::Table;
-use rows::table::TableRule;
 use runs::step::Step;
 
 // The piece on shelf k.
 pub fn piece(shelves: &Shelves, k: usize) -> Piece
-    requires { ⌜ k ≤ 15 ⌝ }
-    ensures shelf { λ r. ⌜ r .shelf ≡ k ⌝ }
-    ensures transient { λ r. ⌜ r .shape .transient ≡ getD (shelves-of (now (shelves .entry))) k empty-shelf .transient ⌝ }
-    ensures period { λ r. ⌜ r .shape .period ≡ getD (shelves-of (now (shelves .entry))) k empty-shelf .period ⌝ }
+    requires { k ≤ 15 }
+    ensures shelf { result.shelf ≡ k }
+    ensures transient { result.shape.transient ≡ (slice_index_or (shelves_of shelves.now) k empty_shelf).transient }
+    ensures period { result.shape.period ≡ (slice_index_or (shelves_of shelves.now) k empty_shelf).period }
 {
     let shelf = shelves.at(k);
     Piece {
@@ -50,8 +42,8 @@ pub fn piece(shelves: &Shelves, k: usize) -> Piece
 
 // A loop of the piece on shelf k, whose step is i.
 pub fn put_loop<V: Algebra>(core: &mut Core<V>, k: usize, i: usize) -> Result<usize, Refusal>
-    requires { ⌜ Room (now core) ⌝ ∗ ⌜ k ≤ 15 ⌝ ∗ ⌜ now core .steps .count < 512 ⌝ }
-    ensures { λ r. ⌜ Built model (loop-rule model (shelf-rows (state-of model means (now (core .entry))) k)) k (loop-step i) [] (state-of model means (now (core .entry))) (state-of model means (now (core .exit))) r ⌝ }
+    requires { (Room core.old) × ((k ≤ 15) × (core.old.steps.count < 512)) }
+    ensures { Built V.model (loop_rule V.model (shelf_rows (state_of V.model V.means core.old) k)) k (loop_step i) [] (state_of V.model V.means core.old) (state_of V.model V.means core.new) result }
 {
     let a = piece(&core.shelves, k);
     build(core, &Repeat { a }, k, Step::Repeat { of: i })
@@ -66,8 +58,8 @@ pub fn put_pair<V: Algebra>(
     i: usize,
     j: usize,
 ) -> Result<usize, Refusal>
-    requires { ⌜ Room (now core) ⌝ ∗ ⌜ first ≤ 15 ⌝ ∗ ⌜ second ≤ 15 ⌝ ∗ ⌜ now core .steps .count < 512 ⌝ }
-    ensures { λ r. ⌜ Built model (pair-rule model kind (shelf-rows (state-of model means (now (core .entry))) first) (shelf-rows (state-of model means (now (core .entry))) second)) first (pair-step kind i j) [] (state-of model means (now (core .entry))) (state-of model means (now (core .exit))) r ⌝ }
+    requires { (Room core.old) × ((first ≤ 15) × ((second ≤ 15) × (core.old.steps.count < 512))) }
+    ensures { Built V.model (pair_rule V.model kind (shelf_rows (state_of V.model V.means core.old) first) (shelf_rows (state_of V.model V.means core.old) second)) first (pair_step kind i j) [] (state_of V.model V.means core.old) (state_of V.model V.means core.new) result }
 {
     let a = piece(&core.shelves, first);
     let b = piece(&core.shelves, second);
@@ -113,8 +105,8 @@ pub fn put_pair<V: Algebra>(
 
 // A table of arcs on shelf k, which are recorded with it.
 pub fn put_table<V: Algebra>(core: &mut Core<V>, k: usize, arcs: &[Arc]) -> Result<usize, Refusal>
-    requires { ⌜ Room (now core) ⌝ ∗ ⌜ k ≤ 15 ⌝ ∗ ⌜ now core .steps .count < 512 ⌝ ∗ ⌜ now core .arcs .count + length (now arcs) ≤ 512 ⌝ }
-    ensures { λ r. ⌜ Built model (table-rule model (now (arcs .entry))) k (table-step (length (state-of model means (now (core .entry)) .arcs)) (length (now (arcs .entry)))) (now (arcs .entry)) (state-of model means (now (core .entry))) (state-of model means (now (core .exit))) r ⌝ }
+    requires { (Room core.old) × ((k ≤ 15) × ((core.old.steps.count < 512) × (core.old.arcs.count + length arcs.now ≤ 512))) }
+    ensures { Built V.model (table_rule V.model arcs.now) k (table_step (length (state_of V.model V.means core.old).arcs) (length arcs.now)) arcs.now (state_of V.model V.means core.old) (state_of V.model V.means core.new) result }
 {
     let step = Step::Table {
         first: core.arcs.count,

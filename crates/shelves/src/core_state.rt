@@ -1,7 +1,5 @@
 // What a rack of either kind holds: the lent cells and its tables. That enough cells are lent is `Room`.
-use crate::tables::Arcs;
-use crate::tables::Shelves;
-use crate::tables::Steps;
+use crate::tables::{Arcs, Shelves, Steps};
 use algebra::algebra::Algebra;
 
 #[derive(Drop)]

@@ -1,4 +1,6 @@
 // The rack: shelves, steps and arcs behind calls that answer as the questions say.
+#![tactic(auto)]
+
 pub mod acting;
 pub mod answering;
 pub mod arcs;

@@ -1,11 +1,9 @@
 // A whole list of calls, answered one after the other.
-ghost use mathlib.Core.List.{map};
-ghost use mathlib.Core.Path.{_≡_};
-ghost use Prim.Native.Nat.{_<_, min};
-ghost use lib.ListN.{length, set, take, drop};
-ghost use Rattle·shelves·specs.Held.{state-of, call-of, Room};
-ghost use Rattle·shelves·specs.Promise.{AnswersAll};
-ghost use Rattle·shelves·specs.Told.{reply-of};
+ghost use Rattle.std.specs.Prelude.{◌≡◌, ◌<◌, min, map, length, take, drop, slice_set};
+ghost use Rattle.shelves.specs.Held.{state_of, call_of, Room};
+ghost use Rattle.shelves.specs.Promise.{AnswersAll};
+ghost use Rattle.shelves.specs.Told.{reply_of};
+
 use crate::answering::answer;
 use crate::call::Call;
 use crate::core_state::Core;
@@ -14,19 +12,19 @@ use algebra::algebra::Algebra;
 
 // Writes a reply down.
 fn write_reply<V: Algebra>(replies: &mut [Reply<V>], i: usize, reply: Reply<V>)
-    requires { ⌜ i < length (now replies) ⌝ }
-    ensures { λ _. ⌜ now (replies .exit) ≡ set (now (replies .entry)) i reply ⌝ }
+    requires { i < length replies.old }
+    ensures { replies.new ≡ slice_set replies.old i reply }
 {
     replies[i] = reply;
 }
 
 // Answers as many calls as there are replies lent for, and says how many, with the whole promise.
 pub fn answer_all<V: Algebra>(core: &mut Core<V>, calls: &[Call], replies: &mut [Reply<V>]) -> usize
-    requires { ⌜ Room (now core) ⌝ }
-    ensures count { λ r. ⌜ r ≡ min (length (now (calls .entry))) (length (now (replies .entry))) ⌝ }
-    ensures rest { λ r. ⌜ drop r (now (replies .exit)) ≡ drop r (now (replies .entry)) ⌝ }
-    ensures answers { λ r. ⌜ AnswersAll model (map call-of (take r (now (calls .entry)))) (map (reply-of model means) (take r (now (replies .exit)))) (state-of model means (now (core .entry))) (state-of model means (now (core .exit))) ⌝ }
-    ensures room { λ _. ⌜ Room (now (core .exit)) ⌝ }
+    requires { Room core.old }
+    ensures count { result ≡ min (length calls.now) (length replies.old) }
+    ensures rest { drop result replies.new ≡ drop result replies.old }
+    ensures answers { AnswersAll V.model (map call_of (take result calls.now)) (map (reply_of V.model V.means) (take result replies.new)) (state_of V.model V.means core.old) (state_of V.model V.means core.new) }
+    ensures room { Room core.new }
 {
     let n = calls.len().min(replies.len());
     for i in 0..n {

@@ -1,39 +1,32 @@
 // Opening: what a rack of either kind holds at first.
-ghost use mathlib.Core.List.{[]};
-ghost use mathlib.Core.Path.{_≡_};
-ghost use Prim.Native.Nat.{ℕ, _≤_, _<_};
-ghost use denote.Ref.{now as held};
-ghost use lib.ListN.{length, getD, set, drop};
-ghost use Rattle·std.specs.declared.option.Option.the-variants.{None as absent};
-ghost use Rattle·std.specs.Orderings.{Decides};
-ghost use Rattle·shelves·specs.Held.{state-of, Room};
-ghost use Rattle·shelves·specs.Promise.{Fresh, Made, Kept};
+ghost use Rattle.std.specs.Prelude.{◌≡◌, ℕ, ◌<◌, ◌≤◌, [], length, drop, None as absent, Decides, slice_index_or, slice_set};
+ghost use Rattle.shelves.specs.Held.{state_of, Room};
+ghost use Rattle.shelves.specs.Promise.{Fresh, Made, Kept};
+
 use crate::core_state::Core;
-use crate::tables::Arcs;
-use crate::tables::Shelves;
-use crate::tables::Steps;
+use crate::tables::{Arcs, Shelves, Steps};
 use algebra::algebra::Algebra;
 
 // Are at least 4,096 cells lent?
 pub fn enough<V: Algebra>(cells: &[Option<V>]) -> bool
-    ensures { λ r. ⌜ Decides r (4096 ≤ length (now (cells .entry))) ⌝ }
+    ensures { Decides result (4096 ≤ length cells.now) }
 {
     cells.len() >= 4096
 }
 
 // Sets cell k to absent.
 fn drop_cell<V: Algebra>(cells: &mut [Option<V>], k: usize)
-    requires { ⌜ k < length (now cells) ⌝ }
-    ensures { λ _. ⌜ now (cells .exit) ≡ set (now (cells .entry)) k absent ⌝ }
+    requires { k < length cells.old }
+    ensures { cells.new ≡ slice_set cells.old k absent }
 {
     cells[k] = None;
 }
 
 // Sets the first 4,096 cells to absent.
 fn wipe<V: Algebra>(cells: &mut [Option<V>])
-    requires { ⌜ 4096 ≤ length (now cells) ⌝ }
-    ensures blank { λ _. ⌜ ((j : ℕ) → j < 4096 → getD (now (cells .exit)) j absent ≡ absent) ⌝ }
-    ensures past { λ _. ⌜ drop 4096 (now (cells .exit)) ≡ drop 4096 (now (cells .entry)) ⌝ }
+    requires { 4096 ≤ length cells.old }
+    ensures blank { (j : ℕ) → j < 4096 → slice_index_or cells.new j absent ≡ absent }
+    ensures past { drop 4096 cells.new ≡ drop 4096 cells.old }
 {
     for k in 0..4096 {
         drop_cell(cells, k);
@@ -42,12 +35,12 @@ fn wipe<V: Algebra>(cells: &mut [Option<V>])
 
 // Opens over lent cells: those past the first 4,096 are untouched. The history begins.
 pub fn open<'a, V: Algebra>(cells: &'a mut [Option<V>]) -> Core<'a, V>
-    requires { ⌜ 4096 ≤ length (now cells) ⌝ }
-    ensures blank { λ r. ⌜ ((j : ℕ) → j < 4096 → getD (held (r .cells)) j absent ≡ absent) ⌝ }
-    ensures past { λ r. ⌜ drop 4096 (held (r .cells)) ≡ drop 4096 (now (cells .entry)) ⌝ }
-    ensures room { λ r. ⌜ Room r ⌝ }
-    ensures fresh { λ r. ⌜ Fresh model (state-of model means r) ⌝ }
-    ensures promise { λ r. ⌜ Made model [] (state-of model means r) × Kept model [] (state-of model means r) ⌝ }
+    requires { 4096 ≤ length cells.old }
+    ensures blank { (j : ℕ) → j < 4096 → slice_index_or result.cells.now j absent ≡ absent }
+    ensures past { drop 4096 result.cells.now ≡ drop 4096 cells.old }
+    ensures room { Room result }
+    ensures fresh { Fresh V.model (state_of V.model V.means result) }
+    ensures promise { Made V.model [] (state_of V.model V.means result) × Kept V.model [] (state_of V.model V.means result) }
 {
     wipe(cells);
     Core {

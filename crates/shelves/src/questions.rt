@@ -1,28 +1,20 @@
 // The questions of a call, one function each; what a question does not concern is yes.
-ghost use mathlib.Core.Bool.{true, false};
-ghost use mathlib.Core.Path.{_≡_};
-ghost use Prim.Native.Nat.{ℕ, _+_, _≤_, _<_};
-ghost use lib.ListN.{length, getD};
-ghost use Rattle·std.specs.Options.{isSome};
-ghost use Rattle·std.specs.Orderings.{Decides};
-ghost use Rattle·std.specs.shelf.Lists.{All};
-ghost use Rattle·shelves·specs.Calls.{about, named};
-ghost use Rattle·shelves·specs.Held.{call-of};
-ghost use Rattle·shelves·specs.Questions.{Distinct, LawfulArc, UpToNamed, Begins};
-ghost use Rattle·shelves·specs.State.{empty-shelf};
-ghost use Rattle·shelves·specs.Tables.{shelves-of, steps-of, arcs-of};
-use crate::arcs::complete;
-use crate::arcs::lawful;
-use crate::arcs::light;
+ghost use Rattle.std.specs.Prelude.{◌≡◌, ℕ, ◌+◌, ◌<◌, ◌≤◌, true, false, length, is_some, Decides, slice_index_or};
+ghost use Rattle.std.specs.List.{AllByRecursion};
+ghost use Rattle.shelves.specs.Calls.{about, named};
+ghost use Rattle.shelves.specs.Held.{call_of};
+ghost use Rattle.shelves.specs.Questions.{Distinct, LawfulArc, UpToNamed, Begins};
+ghost use Rattle.shelves.specs.State.{empty_shelf};
+ghost use Rattle.shelves.specs.Tables.{shelves_of, steps_of, arcs_of};
+
+use crate::arcs::{complete, lawful, light};
 use crate::call::Call;
-use crate::tables::Arcs;
-use crate::tables::Shelves;
-use crate::tables::Steps;
+use crate::tables::{Arcs, Shelves, Steps};
 use algebra::label::MOST_CYCLES;
 
 // Is each shelf number at most 15?
 pub fn numbered(call: Call) -> bool
-    ensures { λ r. ⌜ Decides r (All (λ k. k ≤ 15) (named (call-of (call .entry)))) ⌝ }
+    ensures { Decides result (AllByRecursion (λ k. k ≤ 15) (named (call_of call.entry))) }
 {
     match call {
         Call::Pair { first, second, .. } => (first <= 15) & (second <= 15),
@@ -37,7 +29,7 @@ pub fn numbered(call: Call) -> bool
 
 // Do two named shelves differ?
 pub fn apart(call: Call) -> bool
-    ensures { λ r. ⌜ Decides r (Distinct (named (call-of (call .entry)))) ⌝ }
+    ensures { Decides result (Distinct (named (call_of call.entry))) }
 {
     match call {
         Call::Pair { first, second, .. } => first != second,
@@ -52,14 +44,14 @@ pub fn apart(call: Call) -> bool
 
 // Is shelf k filled?
 fn filled(shelves: &Shelves, k: u8) -> bool
-    ensures { λ r. ⌜ r ≡ isSome (getD (shelves-of (now (shelves .entry))) k empty-shelf .step) ⌝ }
+    ensures { result ≡ is_some (slice_index_or (shelves_of shelves.now) k empty_shelf).step }
 {
     shelves.at(k as usize).step.is_some()
 }
 
 // Is a new leaf's shelf empty?
 pub fn vacant(shelves: &Shelves, call: Call) -> bool
-    ensures { λ r. ⌜ Decides r (All (λ k. isSome (getD (shelves-of (now (shelves .entry))) k empty-shelf .step) ≡ false) (about (call-of (call .entry)) .fresh)) ⌝ }
+    ensures { Decides result (AllByRecursion (λ k. is_some (slice_index_or (shelves_of shelves.now) k empty_shelf).step ≡ false) (about (call_of call.entry)).fresh) }
 {
     match call {
         Call::Node { shelf, .. } => !filled(shelves, shelf),
@@ -74,7 +66,7 @@ pub fn vacant(shelves: &Shelves, call: Call) -> bool
 
 // Is each shelf that another call names filled?
 pub fn occupied(shelves: &Shelves, call: Call) -> bool
-    ensures { λ r. ⌜ Decides r (All (λ k. isSome (getD (shelves-of (now (shelves .entry))) k empty-shelf .step) ≡ true) (about (call-of (call .entry)) .used)) ⌝ }
+    ensures { Decides result (AllByRecursion (λ k. is_some (slice_index_or (shelves_of shelves.now) k empty_shelf).step ≡ true) (about (call_of call.entry)).used) }
 {
     match call {
         Call::Node { .. } => true,
@@ -93,7 +85,7 @@ pub fn occupied(shelves: &Shelves, call: Call) -> bool
 
 // Are fewer than 512 steps recorded?
 pub fn recordable(steps: &Steps, call: Call) -> bool
-    ensures { λ r. ⌜ Decides r (about (call-of (call .entry)) .builds ≡ true → length (steps-of (now (steps .entry))) < 512) ⌝ }
+    ensures { Decides result ((about (call_of call.entry)).builds ≡ true → length (steps_of steps.now) < 512) }
 {
     match call {
         Call::Clear { .. } => true,
@@ -108,7 +100,7 @@ pub fn recordable(steps: &Steps, call: Call) -> bool
 
 // Are all cycles within the limit?
 pub fn measured(call: Call) -> bool
-    ensures { λ r. ⌜ Decides r (All (λ l. l .cycles ≤ 1073741823) (about (call-of (call .entry)) .labels)) ⌝ }
+    ensures { Decides result (AllByRecursion (λ l. l.cycles ≤ 1073741823) (about (call_of call.entry)).labels) }
 {
     match call {
         Call::Node { label, .. } => label.cycles <= MOST_CYCLES,
@@ -123,7 +115,7 @@ pub fn measured(call: Call) -> bool
 
 // Has a table 1 to 512 arcs, each from a state to a state or out?
 pub fn tabular(call: Call) -> bool
-    ensures { λ r. ⌜ Decides r (All (λ arcs. (1 ≤ length arcs) × (length arcs ≤ 512) × All LawfulArc arcs) (about (call-of (call .entry)) .tables)) ⌝ }
+    ensures { Decides result (AllByRecursion (λ arcs. (1 ≤ length arcs) × (length arcs ≤ 512) × AllByRecursion LawfulArc arcs) (about (call_of call.entry)).tables) }
 {
     match call {
         Call::Table { arcs, .. } => {
@@ -141,7 +133,7 @@ pub fn tabular(call: Call) -> bool
 
 // Does every state of a table, up to the highest named, begin an arc?
 pub fn going(call: Call) -> bool
-    ensures { λ r. ⌜ Decides r (All (λ arcs. (q : ℕ) → UpToNamed arcs q → Begins arcs q) (about (call-of (call .entry)) .tables)) ⌝ }
+    ensures { Decides result (AllByRecursion (λ arcs. (q : ℕ) → UpToNamed arcs q → Begins arcs q) (about (call_of call.entry)).tables) }
 {
     match call {
         Call::Table { arcs, .. } => complete(arcs),
@@ -156,7 +148,7 @@ pub fn going(call: Call) -> bool
 
 // Do a table's arcs fit with those recorded?
 pub fn roomy(recorded: &Arcs, call: Call) -> bool
-    ensures { λ r. ⌜ Decides r (All (λ arcs. length (arcs-of (now (recorded .entry))) + length arcs ≤ 512) (about (call-of (call .entry)) .tables)) ⌝ }
+    ensures { Decides result (AllByRecursion (λ arcs. length (arcs_of recorded.now) + length arcs ≤ 512) (about (call_of call.entry)).tables) }
 {
     match call {
         Call::Table { arcs, .. } => arcs.len() <= 512 - recorded.count,

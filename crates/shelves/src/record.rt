@@ -1,14 +1,10 @@
 // Recording: an element is written through its table's own method.
-ghost use mathlib.Core.List.{[], _∷_, _++_};
-ghost use mathlib.Core.Path.{_≡_};
-ghost use Prim.Native.Nat.{_+_, _≤_, _<_};
-ghost use lib.ListN.{length, getD, set, replicate};
-ghost use Rattle·shelves·specs.State.{empty-shelf};
-ghost use Rattle·shelves·specs.Tables.{shelf-of, shelves-of, steps-of, arcs-of};
+ghost use Rattle.std.specs.Prelude.{◌≡◌, ◌+◌, ◌<◌, ◌≤◌, [], ◌∷◌, ◌++◌, length, replicate, slice_index_or, slice_set};
+ghost use Rattle.shelves.specs.State.{empty_shelf};
+ghost use Rattle.shelves.specs.Tables.{shelf_of, shelves_of, steps_of, arcs_of};
+
 use crate::shelf::Shelf;
-use crate::tables::Arcs;
-use crate::tables::Shelves;
-use crate::tables::Steps;
+use crate::tables::{Arcs, Shelves, Steps};
 use algebra::arc::Arc;
 use algebra::label::Label;
 use rows::shape::Shape;
@@ -17,7 +13,7 @@ use runs::step::Step;
 impl Shelf {
     // No step, transient 0 and period 1.
     pub fn empty() -> Shelf
-        ensures { λ r. ⌜ shelf-of r ≡ empty-shelf ⌝ }
+        ensures { shelf_of result ≡ empty_shelf }
     {
         Shelf {
             step: None,
@@ -31,7 +27,7 @@ impl Shelf {
 
 impl Shelves {
     pub fn new() -> Shelves
-        ensures { λ r. ⌜ shelves-of r ≡ replicate 16 empty-shelf ⌝ }
+        ensures { shelves_of result ≡ replicate 16 empty_shelf }
     {
         Shelves {
             items: [Shelf {
@@ -46,7 +42,7 @@ impl Shelves {
 
     // Shelf k; one past 15 reads as empty.
     pub fn at(&self, k: usize) -> Shelf
-        ensures { λ r. ⌜ shelf-of r ≡ getD (shelves-of (now (self .entry))) k empty-shelf ⌝ }
+        ensures { shelf_of result ≡ slice_index_or (shelves_of self.now) k empty_shelf }
     {
         if k < 16 {
             self.items[k]
@@ -56,8 +52,8 @@ impl Shelves {
     }
 
     pub fn put(&mut self, k: usize, shelf: Shelf)
-        requires { ⌜ k < 16 ⌝ }
-        ensures { λ _. ⌜ shelves-of (now (self .exit)) ≡ set (shelves-of (now (self .entry))) k (shelf-of shelf) ⌝ }
+        requires { k < 16 }
+        ensures { shelves_of self.new ≡ slice_set (shelves_of self.old) k (shelf_of shelf) }
     {
         self.items[k] = shelf;
     }
@@ -65,7 +61,7 @@ impl Shelves {
 
 impl Steps {
     pub fn new() -> Steps
-        ensures { λ r. ⌜ steps-of r ≡ [] ⌝ }
+        ensures { steps_of result ≡ [] }
     {
         Steps {
             items: [Step::Repeat { of: 0 }; 512],
@@ -74,9 +70,9 @@ impl Steps {
     }
 
     pub fn push(&mut self, step: Step)
-        requires { ⌜ now self .count < 512 ⌝ }
-        ensures items { λ _. ⌜ steps-of (now (self .exit)) ≡ steps-of (now (self .entry)) ++ step ∷ [] ⌝ }
-        ensures count { λ _. ⌜ now (self .exit) .count ≡ now (self .entry) .count + 1 ⌝ }
+        requires { self.old.count < 512 }
+        ensures items { steps_of self.new ≡ steps_of self.old ++ step ∷ [] }
+        ensures count { self.new.count ≡ self.old.count + 1 }
     {
         self.items[self.count] = step;
         self.count += 1;
@@ -85,7 +81,7 @@ impl Steps {
 
 impl Arcs {
     pub fn new() -> Arcs
-        ensures { λ r. ⌜ arcs-of r ≡ [] ⌝ }
+        ensures { arcs_of result ≡ [] }
     {
         let arc = Arc {
             from: 0,
@@ -102,17 +98,17 @@ impl Arcs {
     }
 
     pub fn push(&mut self, arc: Arc)
-        requires { ⌜ now self .count < 512 ⌝ }
-        ensures items { λ _. ⌜ arcs-of (now (self .exit)) ≡ arcs-of (now (self .entry)) ++ arc ∷ [] ⌝ }
-        ensures count { λ _. ⌜ now (self .exit) .count ≡ now (self .entry) .count + 1 ⌝ }
+        requires { self.old.count < 512 }
+        ensures items { arcs_of self.new ≡ arcs_of self.old ++ arc ∷ [] }
+        ensures count { self.new.count ≡ self.old.count + 1 }
     {
         self.items[self.count] = arc;
         self.count += 1;
     }
 
     pub fn extend(&mut self, arcs: &[Arc])
-        requires { ⌜ now self .count + length (now arcs) ≤ 512 ⌝ }
-        ensures { λ _. ⌜ arcs-of (now (self .exit)) ≡ arcs-of (now (self .entry)) ++ now (arcs .entry) ⌝ }
+        requires { self.old.count + length arcs.now ≤ 512 }
+        ensures { arcs_of self.new ≡ arcs_of self.old ++ arcs.now }
     {
         for arc in arcs {
             self.push(*arc);

@@ -1,6 +1,6 @@
 // Refusals: the questions of a rack that said no.
-ghost use mathlib.Core.Path.{_≡_};
-ghost use Rattle·shelves·specs.Refusals.{number-of};
+ghost use Rattle.std.specs.Prelude.{◌≡◌};
+ghost use Rattle.shelves.specs.Refusals.{number_of};
 
 #[derive(Clone, Copy, PartialEq, Eq, Debug)]
 pub enum Refusal {
@@ -34,7 +34,7 @@ pub enum Refusal {
 
 impl Refusal {
     pub fn number(self) -> u8
-        ensures { λ r. ⌜ r ≡ number-of self ⌝ }
+        ensures { result ≡ number_of self }
     {
         match self {
             Refusal::FewCells => 1,

@@ -1,7 +1,6 @@
 // What a call answers.
 use crate::refusal::Refusal;
 use crate::report::Report;
-use crate::report::ReportClone;
 
 #[derive(Clone, Copy)]
 pub enum Reply<V> {

@@ -1,7 +1,6 @@
 // The tables inside a rack: shelves, recorded steps and recorded arcs, each with its bound in its type.
-ghost use mathlib.Core.Path.{_≡_};
-ghost use Prim.Native.Nat.{_≤_};
-ghost use lib.ListN.{length};
+ghost use Rattle.std.specs.Prelude.{◌≡◌, ◌≤◌, length};
+
 use crate::shelf::Shelf;
 use algebra::arc::Arc;
 use runs::step::Step;

@@ -1,21 +1,14 @@
 // Algebras that are printed: their names and the words of their figures.
-ghost use mathlib.Core.List.{List};
-ghost use mathlib.Core.Path.{_≡_};
-ghost use Prim.Native.Nat.{ℕ};
-ghost use lib.Chars.{codes};
-ghost use Rattle·std.specs.Of.String.{string-bytes};
-ghost use Rattle·std.specs.Vec.{made};
-ghost use Rattle·std.specs.Written.{decimal};
-ghost use Rattle·shown·specs.Figures.{cycles-words};
+#![tactic(auto)]
+
+ghost use Rattle.std.specs.Prelude.{◌≡◌, ℕ, List, IfOk, string_bytes, codes, decimal};
+ghost use Rattle.shown.specs.Figures.{cycles_words};
+
 use algebra::algebra::Algebra;
 use algebra::best::Best;
-use algebra::best::BestAlgebra;
 use algebra::ports::Ports;
-use algebra::ports::PortsAlgebra;
 use algebra::worst::Worst;
-use algebra::worst::WorstAlgebra;
-use std::alloc::AllocError;
-use std::alloc::Global;
+use std::alloc::{AllocError, Global};
 
 // Its name, and the words of a figure.
 pub trait Shown: Algebra {
@@ -24,27 +17,27 @@ pub trait Shown: Algebra {
     ghost words: { Self → List ℕ };
 
     fn name() -> &'static str
-        ensures { λ r. ⌜ now r ≡ named ⌝ };
+        ensures { result.now ≡ named };
 
     fn figure(self, heap: Global) -> Result<String, AllocError>
-        ensures { λ r. ⌜ made r (λ s. string-bytes s ≡ words self) ⌝ };
+        ensures { IfOk result (λ s. string_bytes s ≡ words self) };
 }
 
 // A sum of cycles. One at the top may be past it, so it is shown as `over`.
 fn cycles_shown(heap: Global, cycles: u32) -> Result<String, AllocError>
-    ensures { λ r. ⌜ made r (λ s. string-bytes s ≡ cycles-words cycles) ⌝ }
+    ensures { IfOk result (λ s. string_bytes s ≡ cycles_words cycles) }
 {
     if cycles == u32::MAX {
         String::from_str(heap, "over")
     } else {
-        format!(heap, "{cycles}")
+        format!(in heap; "{cycles}")
     }
 }
 
-pub impl Shown for Worst as WorstShown {
+impl Shown for Worst {
     ghost named = { codes "worst" };
 
-    ghost words = { λ v. cycles-words (v .cycles) };
+    ghost words = { λ v. cycles_words v.cycles };
 
     fn name() -> &'static str {
         "worst"
@@ -55,10 +48,10 @@ pub impl Shown for Worst as WorstShown {
     }
 }
 
-pub impl Shown for Best as BestShown {
+impl Shown for Best {
     ghost named = { codes "best" };
 
-    ghost words = { λ v. cycles-words (v .cycles) };
+    ghost words = { λ v. cycles_words v.cycles };
 
     fn name() -> &'static str {
         "best"
@@ -69,10 +62,10 @@ pub impl Shown for Best as BestShown {
     }
 }
 
-pub impl Shown for Ports as PortsShown {
+impl Shown for Ports {
     ghost named = { codes "ports" };
 
-    ghost words = { λ v. decimal (v .bits) };
+    ghost words = { λ v. decimal v.bits };
 
     fn name() -> &'static str {
         "ports"
@@ -80,6 +73,6 @@ pub impl Shown for Ports as PortsShown {
 
     fn figure(self, heap: Global) -> Result<String, AllocError> {
         let bits = self.bits;
-        format!(heap, "{bits}")
+        format!(in heap; "{bits}")
     }
 }

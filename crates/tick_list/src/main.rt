@@ -1,60 +1,53 @@
 // Lists a program file: its records in plain words, and the weight of all its labels.
+#![tactic(auto)]
+
 mod lines;
 
 use algebra::best::Best;
-use algebra::best::BestAlgebra;
 use algebra::ports::Ports;
-use algebra::ports::PortsAlgebra;
 use algebra::worst::Worst;
-use algebra::worst::WorstAlgebra;
-use lines::arc_words;
-use lines::words;
+use lines::{arc_words, sum, words};
 use program::file::list;
 use program::record::Record;
 use program::refusal::Refusal;
-use program::weights::count;
-use program::weights::weight;
-use shown::BestShown;
-use shown::PortsShown;
-use shown::Shown;
-use shown::WorstShown;
+use program::weights::{count, weight};
 use std::io;
 use std::io::Read;
 
-fn print_record(rt: &LibcRuntime, index: usize, of: &Record) -> io::Result<()> {
+fn print_record(rt: &HostRuntime, index: usize, of: &Record) -> io::Result<()> {
     let heap = rt.alloc();
     let line = words(heap, of)?;
-    println!(rt, "record {index} {line}")?;
+    println!(rt; "record {index} {line}")?;
     if let Record::Table { arcs, .. } = of {
         for (i, arc) in arcs.iter().enumerate() {
             let line = arc_words(heap, *arc)?;
-            println!(rt, "  arc {i} {line}")?;
+            println!(rt; "  arc {i} {line}")?;
         }
     }
     Ok(())
 }
 
-fn print_totals(rt: &LibcRuntime, records: &[Record]) -> io::Result<()> {
+fn print_totals(rt: &HostRuntime, records: &[Record]) -> io::Result<()> {
     let heap = rt.alloc();
     let labels = count(records);
-    let worst = weight::<Worst>(records).figure(heap)?;
-    let best = weight::<Best>(records).figure(heap)?;
-    let ports = weight::<Ports>(records).figure(heap)?;
+    let worst = sum(heap, weight::<Worst>(records).cycles)?;
+    let best = sum(heap, weight::<Best>(records).cycles)?;
+    let ports = weight::<Ports>(records).bits;
     let total = records.len();
-    println!(rt, "records {total}")?;
-    println!(rt, "labels {labels}")?;
-    println!(rt, "worst {worst}")?;
-    println!(rt, "best {best}")?;
-    println!(rt, "ports {ports}")
+    println!(rt; "records {total}")?;
+    println!(rt; "labels {labels}")?;
+    println!(rt; "worst {worst}")?;
+    println!(rt; "best {best}")?;
+    println!(rt; "ports {ports}")
 }
 
 // Records are numbered from 0, so the one that is refused has the count of those before it.
-fn print_refusal(rt: &LibcRuntime, why: Refusal, before: usize) -> io::Result<()> {
+fn print_refusal(rt: &HostRuntime, why: Refusal, before: usize) -> io::Result<()> {
     let number = why.number();
-    println!(rt, "refused {number} record {before}")
+    println!(rt; "refused {number} record {before}")
 }
 
-fn main(rt: LibcRuntime) -> io::Result<()> {
+fn main(rt: HostRuntime) -> io::Result<()> {
     let mut bytes = Vec::new(rt.alloc());
     rt.stdin().read_to_end(&mut bytes)?;
     let listing = list(rt.alloc(), bytes.as_slice())?;

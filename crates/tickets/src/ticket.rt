@@ -1,6 +1,6 @@
 // Tickets: each names a shelf that a rack has filled.
-ghost use mathlib.Core.Path.{_≡_};
-ghost use Prim.Native.Nat.{_≤_};
+ghost use Rattle.std.specs.Prelude.{◌≡◌, ◌≤◌};
+
 use shelves::refusal::Refusal;
 
 // It cannot be copied or let fall, and only this crate makes one: it ends built in or cleared.
@@ -12,7 +12,7 @@ pub struct Ticket {
 impl Ticket {
     // The shelf that it names.
     pub fn shelf(&self) -> u8
-        ensures { λ r. ⌜ r ≡ now (self .entry) .shelf ⌝ }
+        ensures { result ≡ self.now.shelf }
     {
         self.shelf
     }

@@ -1,27 +1,18 @@
 // A rack whose calls take tickets. At another rack a ticket is only a number, so every question is asked all the same.
-ghost use mathlib.Core.List.{[], map};
-ghost use mathlib.Core.Path.{_≡_};
-ghost use Prim.Native.Nat.{ℕ, _≤_, _<_, min};
-ghost use denote.Ref.{now as held};
-ghost use lib.ListN.{length, getD, take, drop};
-ghost use Rattle·std.specs.Results.{Cases};
-ghost use Rattle·std.specs.declared.option.Option.the-variants.{None as absent};
-ghost use Rattle·shelves.specs.declared.call.Pairing.the-variants as kind;
-ghost use Rattle·shelves.specs.Calls.{node as node-call, pause as pause-call, table as table-call, pair as pair-call, loop as loop-call, clear as clear-call, report as report-call};
-ghost use Rattle·shelves.specs.Held.{state-of, call-of, Room};
-ghost use Rattle·shelves.specs.Promise.{Fresh, Made, Kept, Answers, AnswersAll};
-ghost use Rattle·shelves.specs.Told.{reply-of, shown};
-ghost use Rattle·tickets·specs.Tickets.{leaf-reply, loop-reply, clear-reply, pair-reply, Names};
-use crate::ticket::Back;
-use crate::ticket::BothBack;
-use crate::ticket::Built;
-use crate::ticket::Ticket;
+ghost use Rattle.std.specs.Prelude.{◌≡◌, ℕ, ◌<◌, ◌≤◌, min, [], map, length, take, drop, IfOk, IfErr, None as absent, MatchResult, OnErr, slice_index_or};
+ghost use Rattle.shelves.specs.declared.call.Pairing.TheVariants as kind;
+ghost use Rattle.shelves.specs.Calls.{node as Node-call, pause as pause_call, table as table_call, pair as pair_call, loop as loop_call, clear as clear_call, report as report_call};
+ghost use Rattle.shelves.specs.Held.{state_of, call_of, Room};
+ghost use Rattle.shelves.specs.Promise.{Fresh, Made, Kept, Answers, AnswersAll};
+ghost use Rattle.shelves.specs.Told.{reply_of, shown};
+ghost use Rattle.tickets.specs.Tickets.{leaf_reply, loop_reply, clear_reply, pair_reply, Names};
+
+use crate::ticket::{Back, BothBack, Built, Ticket};
 use algebra::algebra::Algebra;
 use algebra::arc::Arc;
 use algebra::label::Label;
 use shelves::answering::look;
-use shelves::call::Call;
-use shelves::call::Pairing;
+use shelves::call::{Call, Pairing};
 use shelves::changing::change;
 use shelves::core_state::Core;
 use shelves::listing::answer_all;
@@ -39,19 +30,19 @@ pub struct TicketRack<'a, V: Algebra> {
 impl<'a, V: Algebra> TicketRack<'a, V> {
     // A new rack over lent cells, after `enough` said yes of them. The history begins.
     pub fn open(cells: &'a mut [Option<V>]) -> TicketRack<'a, V>
-        requires { ⌜ 4096 ≤ length (now cells) ⌝ }
-        ensures blank { λ r. ⌜ ((j : ℕ) → j < 4096 → getD (held (r .core .cells)) j absent ≡ absent) ⌝ }
-        ensures past { λ r. ⌜ drop 4096 (held (r .core .cells)) ≡ drop 4096 (now (cells .entry)) ⌝ }
-        ensures fresh { λ r. ⌜ Fresh model (state-of model means (r .core)) ⌝ }
-        ensures promise { λ r. ⌜ Made model [] (state-of model means (r .core)) × Kept model [] (state-of model means (r .core)) ⌝ }
+        requires { 4096 ≤ length cells.old }
+        ensures blank { (j : ℕ) → j < 4096 → slice_index_or result.core.cells.now j absent ≡ absent }
+        ensures past { drop 4096 result.core.cells.now ≡ drop 4096 cells.old }
+        ensures fresh { Fresh V.model (state_of V.model V.means result.core) }
+        ensures promise { Made V.model [] (state_of V.model V.means result.core) × Kept V.model [] (state_of V.model V.means result.core) }
     {
         TicketRack { core: open(cells) }
     }
 
     pub fn node(&mut self, shelf: u8, label: Label) -> Result<Built, Refusal>
-        ensures answers { λ r. ⌜ Answers model (node-call shelf label) (leaf-reply model r) (state-of model means (now (self .entry) .core)) (state-of model means (now (self .exit) .core)) ⌝ }
-        ensures ticket { λ r. ⌜ Cases r (λ built. built .ticket .shelf ≡ shelf) (λ _. Unit {0}) ⌝ }
-        ensures names { λ r. ⌜ Cases r (λ built. Names (state-of model means (now (self .exit) .core)) (built .ticket)) (λ _. Unit {0}) ⌝ }
+        ensures answers { Answers V.model (Node-call shelf label) (leaf_reply V.model result) (state_of V.model V.means self.old.core) (state_of V.model V.means self.new.core) }
+        ensures ticket { IfOk result (λ built. built.ticket.shelf ≡ shelf) }
+        ensures names { IfOk result (λ built. Names (state_of V.model V.means self.new.core) built.ticket) }
     {
         match change(&mut self.core, Call::node(shelf, label)) {
             Ok(number) => Ok(Built {
@@ -63,9 +54,9 @@ impl<'a, V: Algebra> TicketRack<'a, V> {
     }
 
     pub fn pause(&mut self, shelf: u8, label: Label) -> Result<Built, Refusal>
-        ensures answers { λ r. ⌜ Answers model (pause-call shelf label) (leaf-reply model r) (state-of model means (now (self .entry) .core)) (state-of model means (now (self .exit) .core)) ⌝ }
-        ensures ticket { λ r. ⌜ Cases r (λ built. built .ticket .shelf ≡ shelf) (λ _. Unit {0}) ⌝ }
-        ensures names { λ r. ⌜ Cases r (λ built. Names (state-of model means (now (self .exit) .core)) (built .ticket)) (λ _. Unit {0}) ⌝ }
+        ensures answers { Answers V.model (pause_call shelf label) (leaf_reply V.model result) (state_of V.model V.means self.old.core) (state_of V.model V.means self.new.core) }
+        ensures ticket { IfOk result (λ built. built.ticket.shelf ≡ shelf) }
+        ensures names { IfOk result (λ built. Names (state_of V.model V.means self.new.core) built.ticket) }
     {
         match change(&mut self.core, Call::pause(shelf, label)) {
             Ok(number) => Ok(Built {
@@ -77,9 +68,9 @@ impl<'a, V: Algebra> TicketRack<'a, V> {
     }
 
     pub fn table(&mut self, shelf: u8, arcs: &[Arc]) -> Result<Built, Refusal>
-        ensures answers { λ r. ⌜ Answers model (table-call shelf (now (arcs .entry))) (leaf-reply model r) (state-of model means (now (self .entry) .core)) (state-of model means (now (self .exit) .core)) ⌝ }
-        ensures ticket { λ r. ⌜ Cases r (λ built. built .ticket .shelf ≡ shelf) (λ _. Unit {0}) ⌝ }
-        ensures names { λ r. ⌜ Cases r (λ built. Names (state-of model means (now (self .exit) .core)) (built .ticket)) (λ _. Unit {0}) ⌝ }
+        ensures answers { Answers V.model (table_call shelf arcs.now) (leaf_reply V.model result) (state_of V.model V.means self.old.core) (state_of V.model V.means self.new.core) }
+        ensures ticket { IfOk result (λ built. built.ticket.shelf ≡ shelf) }
+        ensures names { IfOk result (λ built. Names (state_of V.model V.means self.new.core) built.ticket) }
     {
         match change(&mut self.core, Call::table(shelf, arcs)) {
             Ok(number) => Ok(Built {
@@ -92,9 +83,9 @@ impl<'a, V: Algebra> TicketRack<'a, V> {
 
     // Spends the second ticket; the first is then the result's. Refused, it hands both back.
     fn pair(&mut self, kind: Pairing, first: Ticket, second: Ticket) -> Result<Built, BothBack>
-        ensures answers { λ r. ⌜ Answers model (pair-call kind (first .shelf) (second .shelf)) (pair-reply model r) (state-of model means (now (self .entry) .core)) (state-of model means (now (self .exit) .core)) ⌝ }
-        ensures ticket { λ r. ⌜ Cases r (λ built. built .ticket ≡ first) (λ back. (back .first ≡ first) × (back .second ≡ second)) ⌝ }
-        ensures names { λ r. ⌜ Cases r (λ built. Names (state-of model means (now (self .exit) .core)) (built .ticket)) (λ _. Unit {0}) ⌝ }
+        ensures answers { Answers V.model (pair_call kind first.shelf second.shelf) (pair_reply V.model result) (state_of V.model V.means self.old.core) (state_of V.model V.means self.new.core) }
+        ensures ticket { MatchResult result (λ built. built.ticket ≡ first) (λ back. (back.first ≡ first) × (back.second ≡ second)) }
+        ensures names { IfOk result (λ built. Names (state_of V.model V.means self.new.core) built.ticket) }
     {
         let call = Call::pair(kind, first.shelf, second.shelf);
         match change(&mut self.core, call) {
@@ -110,42 +101,42 @@ impl<'a, V: Algebra> TicketRack<'a, V> {
     }
 
     pub fn choice(&mut self, first: Ticket, second: Ticket) -> Result<Built, BothBack>
-        ensures answers { λ r. ⌜ Answers model (pair-call kind.Choice (first .shelf) (second .shelf)) (pair-reply model r) (state-of model means (now (self .entry) .core)) (state-of model means (now (self .exit) .core)) ⌝ }
-        ensures ticket { λ r. ⌜ Cases r (λ built. built .ticket ≡ first) (λ back. (back .first ≡ first) × (back .second ≡ second)) ⌝ }
-        ensures names { λ r. ⌜ Cases r (λ built. Names (state-of model means (now (self .exit) .core)) (built .ticket)) (λ _. Unit {0}) ⌝ }
+        ensures answers { Answers V.model (pair_call kind.Choice first.shelf second.shelf) (pair_reply V.model result) (state_of V.model V.means self.old.core) (state_of V.model V.means self.new.core) }
+        ensures ticket { MatchResult result (λ built. built.ticket ≡ first) (λ back. (back.first ≡ first) × (back.second ≡ second)) }
+        ensures names { IfOk result (λ built. Names (state_of V.model V.means self.new.core) built.ticket) }
     {
         self.pair(Pairing::Choice, first, second)
     }
 
     pub fn sequence(&mut self, first: Ticket, second: Ticket) -> Result<Built, BothBack>
-        ensures answers { λ r. ⌜ Answers model (pair-call kind.Sequence (first .shelf) (second .shelf)) (pair-reply model r) (state-of model means (now (self .entry) .core)) (state-of model means (now (self .exit) .core)) ⌝ }
-        ensures ticket { λ r. ⌜ Cases r (λ built. built .ticket ≡ first) (λ back. (back .first ≡ first) × (back .second ≡ second)) ⌝ }
-        ensures names { λ r. ⌜ Cases r (λ built. Names (state-of model means (now (self .exit) .core)) (built .ticket)) (λ _. Unit {0}) ⌝ }
+        ensures answers { Answers V.model (pair_call kind.Sequence first.shelf second.shelf) (pair_reply V.model result) (state_of V.model V.means self.old.core) (state_of V.model V.means self.new.core) }
+        ensures ticket { MatchResult result (λ built. built.ticket ≡ first) (λ back. (back.first ≡ first) × (back.second ≡ second)) }
+        ensures names { IfOk result (λ built. Names (state_of V.model V.means self.new.core) built.ticket) }
     {
         self.pair(Pairing::Sequence, first, second)
     }
 
     pub fn fork(&mut self, first: Ticket, second: Ticket) -> Result<Built, BothBack>
-        ensures answers { λ r. ⌜ Answers model (pair-call kind.Fork (first .shelf) (second .shelf)) (pair-reply model r) (state-of model means (now (self .entry) .core)) (state-of model means (now (self .exit) .core)) ⌝ }
-        ensures ticket { λ r. ⌜ Cases r (λ built. built .ticket ≡ first) (λ back. (back .first ≡ first) × (back .second ≡ second)) ⌝ }
-        ensures names { λ r. ⌜ Cases r (λ built. Names (state-of model means (now (self .exit) .core)) (built .ticket)) (λ _. Unit {0}) ⌝ }
+        ensures answers { Answers V.model (pair_call kind.Fork first.shelf second.shelf) (pair_reply V.model result) (state_of V.model V.means self.old.core) (state_of V.model V.means self.new.core) }
+        ensures ticket { MatchResult result (λ built. built.ticket ≡ first) (λ back. (back.first ≡ first) × (back.second ≡ second)) }
+        ensures names { IfOk result (λ built. Names (state_of V.model V.means self.new.core) built.ticket) }
     {
         self.pair(Pairing::Fork, first, second)
     }
 
     pub fn abort(&mut self, first: Ticket, second: Ticket) -> Result<Built, BothBack>
-        ensures answers { λ r. ⌜ Answers model (pair-call kind.Abort (first .shelf) (second .shelf)) (pair-reply model r) (state-of model means (now (self .entry) .core)) (state-of model means (now (self .exit) .core)) ⌝ }
-        ensures ticket { λ r. ⌜ Cases r (λ built. built .ticket ≡ first) (λ back. (back .first ≡ first) × (back .second ≡ second)) ⌝ }
-        ensures names { λ r. ⌜ Cases r (λ built. Names (state-of model means (now (self .exit) .core)) (built .ticket)) (λ _. Unit {0}) ⌝ }
+        ensures answers { Answers V.model (pair_call kind.Abort first.shelf second.shelf) (pair_reply V.model result) (state_of V.model V.means self.old.core) (state_of V.model V.means self.new.core) }
+        ensures ticket { MatchResult result (λ built. built.ticket ≡ first) (λ back. (back.first ≡ first) × (back.second ≡ second)) }
+        ensures names { IfOk result (λ built. Names (state_of V.model V.means self.new.core) built.ticket) }
     {
         self.pair(Pairing::Abort, first, second)
     }
 
     // The call loop, whose name is a word of the language.
     pub fn repeat(&mut self, ticket: Ticket) -> Result<Built, Back>
-        ensures answers { λ r. ⌜ Answers model (loop-call (ticket .shelf)) (loop-reply model r) (state-of model means (now (self .entry) .core)) (state-of model means (now (self .exit) .core)) ⌝ }
-        ensures ticket { λ r. ⌜ Cases r (λ built. built .ticket ≡ ticket) (λ back. back .ticket ≡ ticket) ⌝ }
-        ensures names { λ r. ⌜ Cases r (λ built. Names (state-of model means (now (self .exit) .core)) (built .ticket)) (λ _. Unit {0}) ⌝ }
+        ensures answers { Answers V.model (loop_call ticket.shelf) (loop_reply V.model result) (state_of V.model V.means self.old.core) (state_of V.model V.means self.new.core) }
+        ensures ticket { MatchResult result (λ built. built.ticket ≡ ticket) (λ back. back.ticket ≡ ticket) }
+        ensures names { IfOk result (λ built. Names (state_of V.model V.means self.new.core) built.ticket) }
     {
         match change(&mut self.core, Call::repeat(ticket.shelf)) {
             Ok(number) => Ok(Built { ticket, number }),
@@ -155,9 +146,9 @@ impl<'a, V: Algebra> TicketRack<'a, V> {
 
     // Spends the ticket.
     pub fn clear(&mut self, ticket: Ticket) -> Result<usize, Back>
-        ensures answers { λ r. ⌜ Answers model (clear-call (ticket .shelf)) (clear-reply model r) (state-of model means (now (self .entry) .core)) (state-of model means (now (self .exit) .core)) ⌝ }
-        ensures ticket { λ r. ⌜ Cases r (λ _. Unit {0}) (λ back. back .ticket ≡ ticket) ⌝ }
-        ensures cleared { λ r. ⌜ (Names (state-of model means (now (self .entry) .core)) ticket → Cases r (λ _. Unit {0}) (λ _. ⊥)) ⌝ }
+        ensures answers { Answers V.model (clear_call ticket.shelf) (clear_reply V.model result) (state_of V.model V.means self.old.core) (state_of V.model V.means self.new.core) }
+        ensures ticket { IfErr result (λ back. back.ticket ≡ ticket) }
+        ensures cleared { Names (state_of V.model V.means self.old.core) ticket → OnErr result (⊥) }
     {
         match change(&mut self.core, Call::clear(ticket.shelf)) {
             Ok(number) => {
@@ -170,16 +161,16 @@ impl<'a, V: Algebra> TicketRack<'a, V> {
 
     // Report only looks, at the rack and at the ticket.
     pub fn report(&self, ticket: &Ticket) -> Result<Report<V>, Refusal>
-        ensures { λ r. ⌜ Answers model (report-call (now (ticket .entry) .shelf)) (shown model means r) (state-of model means (now (self .entry) .core)) (state-of model means (now (self .entry) .core)) ⌝ }
+        ensures { Answers V.model (report_call ticket.now.shelf) (shown V.model V.means result) (state_of V.model V.means self.now.core) (state_of V.model V.means self.now.core) }
     {
         look(&self.core, ticket.shelf)
     }
 
     // A whole list of calls, by the shelves that tickets would name, as many as there are replies lent for, and how many.
     pub fn run(&mut self, calls: &[Call], replies: &mut [Reply<V>]) -> usize
-        ensures count { λ r. ⌜ r ≡ min (length (now (calls .entry))) (length (now (replies .entry))) ⌝ }
-        ensures rest { λ r. ⌜ drop r (now (replies .exit)) ≡ drop r (now (replies .entry)) ⌝ }
-        ensures answers { λ r. ⌜ AnswersAll model (map call-of (take r (now (calls .entry)))) (map (reply-of model means) (take r (now (replies .exit)))) (state-of model means (now (self .entry) .core)) (state-of model means (now (self .exit) .core)) ⌝ }
+        ensures count { result ≡ min (length calls.now) (length replies.old) }
+        ensures rest { drop result replies.new ≡ drop result replies.old }
+        ensures answers { AnswersAll V.model (map call_of (take result calls.now)) (map (reply_of V.model V.means) (take result replies.new)) (state_of V.model V.means self.old.core) (state_of V.model V.means self.new.core) }
     {
         answer_all(&mut self.core, calls, replies)
     }

@@ -1,27 +1,24 @@
 -- Loop: a set M, first empty, and whether it is tick 0.
-use mathlib.Core.Bool.{Bool, true, false, cond}
-use Prim.Native.Nat.{ℕ}
-use Rattle·std.specs.declared.option.Option.the-variants.{None, Some}
-use Rattle·std.specs.Options.{isSome}
-use Rattle·algebra.specs.Model.{Model}
-use Rattle·algebra.specs.Coefficients.{Coef, join, add}
-use Rattle·rows·specs.Pieces.{Rows, size, next-phase, moved}
-use Rattle·rows·specs.Sets.{has, with-member, joins}
-use Rattle·rows·specs.Rules.Rule.{Rule, situation}
+use Rattle.std.specs.Prelude.{ℕ, Bool, true, false, cond, is_some, Some, None}
+use Rattle.algebra.specs.Model.{Model}
+use Rattle.algebra.specs.Coefficients.{Coef, join, add}
+use Rattle.rows.specs.Pieces.{Rows, size, next_phase, moved}
+use Rattle.rows.specs.Sets.{has, with_member, joins}
+use Rattle.rows.specs.Rules.Rule.{Rule, situation}
 
 -- S: the unit at tick 0, later the join of A.e over M
 abbrev pub starts : (m : Model) (A : Rows m) → (zeroth : Bool) (set : ℕ) → Coef m
-starts m A zeroth set = cond zeroth (Some (m .unit)) (joins m (has set) (A .e) (size A))
+starts m A zeroth set = cond zeroth (Some m.unit) (joins m (has set) A.e (size A))
 
 -- the next M holds the phase after each member with A.p present, and the phase after 0 if S is present
-abbrev pub go-round : (m : Model) (A : Rows m) → (zeroth : Bool) (set : ℕ) → ℕ
-go-round m A zeroth set = cond (isSome (starts m A zeroth set)) (with-member (moved A set) (next-phase A 0)) (moved A set)
+abbrev pub go_round : (m : Model) (A : Rows m) → (zeroth : Bool) (set : ℕ) → ℕ
+go_round m A zeroth set = cond (is_some (starts m A zeroth set)) (with_member (moved A set) (next_phase A 0)) (moved A set)
 
 -- pause is (S ⊙ A.p at 0) ⊕ all A.p over M; exit is absent
 abbrev pub loop : (m : Model) (A : Rows m) → Rule m
 loop m A = record {
   first = situation 0 0 0 true false;
-  pause = λ s. join m (add m (starts m A (s .wa) (s .set)) (A .p 0)) (joins m (has (s .set)) (A .p) (size A));
+  pause = λ s. join m (add m (starts m A s.wa s.set) (A.p 0)) (joins m (has s.set) A.p (size A));
   exit = λ s. None;
-  next = λ s. situation 0 0 (go-round m A (s .wa) (s .set)) false false;
+  next = λ s. situation 0 0 (go_round m A s.wa s.set) false false;
 }

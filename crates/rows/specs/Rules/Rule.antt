@@ -1,9 +1,8 @@
 -- A working rule: it carries a situation from tick to tick, and gives pause and exit at each.
-use mathlib.Core.Bool.{Bool}
-use Prim.Native.Nat.{ℕ, zero, suc}
-use Rattle·algebra.specs.Model.{Model}
-use Rattle·algebra.specs.Coefficients.{Coef}
-use Rattle·rows·specs.declared.situation.Situation.{Situation}
+use Rattle.std.specs.Prelude.{ℕ, zero, suc, Bool}
+use Rattle.algebra.specs.Model.{Model}
+use Rattle.algebra.specs.Coefficients.{Coef}
+use Rattle.rows.specs.declared.situation.Situation.{Situation}
 
 -- the first situation, the two coefficients at a situation, and the situation after it
 pub record Rule (m : Model) : Type 0 where
@@ -14,12 +13,12 @@ pub record Rule (m : Model) : Type 0 where
 
 -- the situation at tick n
 abbrev pub at : {m : Model} → Rule m → ℕ → Situation
-at rule zero = rule .first
-at rule (suc n) = rule .next (at rule n)
+at rule zero = rule.first
+at rule (suc n) = rule.next (at rule n)
 
 -- the two rows of a rule, pause and exit, at tick n
 abbrev pub rows : {m : Model} → Rule m → ℕ → Coef m × Coef m
-rows rule n = (rule .pause (at rule n), rule .exit (at rule n))
+rows rule n = (rule.pause (at rule n), rule.exit (at rule n))
 
 -- the situation with these phases, this set and these marks
 abbrev pub situation : (a b set : ℕ) (wa wb : Bool) → Situation

@@ -1,22 +1,20 @@
 -- Sequence: A's phase and a set M of B's phases, first empty.
-use mathlib.Core.Bool.{false, cond, _&&_}
-use Prim.Native.Nat.{ℕ}
-use Rattle·std.specs.Options.{isSome}
-use Rattle·algebra.specs.Model.{Model}
-use Rattle·algebra.specs.Coefficients.{join, add}
-use Rattle·rows·specs.Pieces.{Rows, size, next-phase, moved}
-use Rattle·rows·specs.Sets.{has, with-member, joins}
-use Rattle·rows·specs.Rules.Rule.{Rule, situation}
+use Rattle.std.specs.Prelude.{ℕ, false, cond, ◌&&◌, is_some}
+use Rattle.algebra.specs.Model.{Model}
+use Rattle.algebra.specs.Coefficients.{join, add}
+use Rattle.rows.specs.Pieces.{Rows, size, next_phase, moved}
+use Rattle.rows.specs.Sets.{has, with_member, joins}
+use Rattle.rows.specs.Rules.Rule.{Rule, situation}
 
 -- the next M holds the phase after each member with B.p present, and the phase after 0 if A.e and B.p at 0 are present
-abbrev pub follow-on : {m : Model} (A B : Rows m) → (phase set : ℕ) → ℕ
-follow-on A B phase set = cond (isSome (A .e phase) && isSome (B .p 0)) (with-member (moved B set) (next-phase B 0)) (moved B set)
+abbrev pub follow_on : {m : Model} (A B : Rows m) → (phase set : ℕ) → ℕ
+follow_on A B phase set = cond (is_some (A.e phase) && is_some (B.p 0)) (with_member (moved B set) (next_phase B 0)) (moved B set)
 
 -- pause is A.p ⊕ (A.e ⊙ B.p at 0) ⊕ all B.p over M; exit is (A.e ⊙ B.e at 0) ⊕ all B.e over M
 abbrev pub sequence : (m : Model) (A B : Rows m) → Rule m
 sequence m A B = record {
   first = situation 0 0 0 false false;
-  pause = λ s. join m (join m (A .p (s .a)) (add m (A .e (s .a)) (B .p 0))) (joins m (has (s .set)) (B .p) (size B));
-  exit = λ s. join m (add m (A .e (s .a)) (B .e 0)) (joins m (has (s .set)) (B .e) (size B));
-  next = λ s. situation (next-phase A (s .a)) 0 (follow-on A B (s .a) (s .set)) false false;
+  pause = λ s. join m (join m (A.p s.a) (add m (A.e s.a) (B.p 0))) (joins m (has s.set) B.p (size B));
+  exit = λ s. join m (add m (A.e s.a) (B.e 0)) (joins m (has s.set) B.e (size B));
+  next = λ s. situation (next_phase A s.a) 0 (follow_on A B s.a s.set) false false;
 }

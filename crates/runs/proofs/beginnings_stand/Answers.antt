@@ -1,5 +1,5 @@
-use Rattle·runs·proofs.Beginnings.{begins}
-use Rattle·runs·proofs.beginnings_stand.Needs as need
+use Rattle.runs.proofs.Beginnings.{begins}
+use Rattle.runs.proofs.beginnings_stand.Goals as goal
 
-pub returns : need.returns
+pub returns : goal.returns
 returns c = begins

@@ -1,9 +1,9 @@
-use borrow.Author.Needs.{needs}
-use Rattle·algebra.specs.Model.{Laws}
-use Rattle·runs·proofs.Figure.{covers}
-use Rattle·runs·proofs.figure_stands.Needs as need
+use Rattle.std.proofs.Common.{rules}
+use Rattle.algebra.specs.Model.{Laws}
+use Rattle.runs.proofs.Figure.{covers}
+use Rattle.runs.proofs.figure_stands.Goals as goal
 
-pub returns : need.returns
+pub returns : goal.returns
 returns g c plan p e r N repeats =
-    let laws : Laws (g .V·Algebra .model) = search needs in
+    let laws : Laws g.V.Algebra.model = search rules in
     covers _ laws _ r N repeats

@@ -1,5 +1,5 @@
-use Rattle·runs·proofs.OneShape.{one-shape, one-keeping}
-use Rattle·runs·proofs.one_shape_stands.Needs as need
+use Rattle.runs.proofs.OneShape.{one_shape, one_keeping}
+use Rattle.runs.proofs.one_shape_stands.Goals as goal
 
-pub returns : need.returns
-returns g c = record { rows = one-shape; shelves = one-keeping _ }
+pub returns : goal.returns
+returns g c = record { rows = one_shape; shelves = one_keeping _ }

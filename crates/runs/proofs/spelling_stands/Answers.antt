@@ -1,5 +1,5 @@
-use Rattle·runs·proofs.Steps.{stays, spells-one}
-use Rattle·runs·proofs.spelling_stands.Needs as need
+use Rattle.runs.proofs.Steps.{stays, spells_one}
+use Rattle.runs.proofs.spelling_stands.Goals as goal
 
-pub returns : need.returns
-returns c = record { stays = stays; one = spells-one }
+pub returns : goal.returns
+returns c = record { stays = stays; one = spells_one }

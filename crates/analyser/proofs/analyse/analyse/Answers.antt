@@ -1,29 +1,27 @@
-use mathlib.Core.List.{map}
-use native.Mathlib.Omega.{arith}
-use Rattle·std.specs.Of.Vec.{vec-items}
-use Rattle·program.specs.Entries.{entry}
-use Rattle·shelves.specs.Held.{state-of}
-use Rattle·analyser·specs.Files.{found-of}
-use Rattle·analyser·proofs.Telling.{works-tell}
-use Rattle·analyser·proofs.analyse.analyse.Needs as need
+use Rattle.std.proofs.Common.{map, vec_items, arith}
+use Rattle.program.specs.Entries.{entry}
+use Rattle.shelves.specs.Held.{state_of}
+use Rattle.analyser.specs.Files.{found_of}
+use Rattle.analyser.proofs.Telling.{works_tell}
+use Rattle.analyser.proofs.analyse.analyse.Goals as goal
 
-pub returns : need.returns
+pub returns : goal.returns
 returns g c =
-    let m = g .V·Algebra .model in
-    let f = g .V·Algebra .means in
-    let listing = c .in-Continue-listing .listing in
-    let first = state-of m f (c .open-rack .result .core) in
-    let last = state-of m f (c .work .last .rack .core) in
-    let fresh = c .open-rack .ensures .fresh in (
+    let m = g.V.Algebra.model in
+    let f = g.V.Algebra.means in
+    let listing = c.in_ok-listing.listing in
+    let first = state_of m f c.open-rack.result.core in
+    let last = state_of m f c.work.new.rack.core in
+    let fresh = c.open-rack.ensures.fresh in (
       λ lent. record {
-        entries = map entry (vec-items (listing .records));
-        ending = listing .refusal;
-        holds = c .in-Continue-listing .ensures tt;
+        entries = map entry (vec_items listing.records);
+        ending = listing.refusal;
+        holds = c.in_ok-listing.ensures;
         new = first;
         last = last;
         fresh = fresh;
-        works = c .work .ensures;
-        tells = works-tell m (map entry (vec-items (listing .records))) (listing .refusal) first last fresh (found-of m f (c .work .result)) (c .work .ensures);
+        works = c.work.ensures;
+        tells = works_tell m (map entry (vec_items listing.records)) listing.refusal first last fresh (found_of m f c.work.result) c.work.ensures;
       },
       λ few. absurd (omega arith),
     )

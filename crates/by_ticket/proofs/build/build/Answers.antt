@@ -1,19 +1,19 @@
-use Rattle·shelves.specs.Held.{state-of}
-use Rattle·by_ticket·proofs.Holding.{perhaps-forked}
-use Rattle·by_ticket·proofs.build.build.Needs as need
+use Rattle.shelves.specs.Held.{state_of}
+use Rattle.by_ticket.proofs.Holding.{perhaps_forked}
+use Rattle.by_ticket.proofs.build.build.Goals as goal
 
-pub returns-in-Ok : need.returns-in-Ok
+pub returns-in-Ok : goal.returns-in-Ok
 returns-in-Ok g c =
-    let m = g .V·Algebra .model in
-    let f = g .V·Algebra .means in
-    let one = c .in-Continue-built in
-    let two = c .in-Ok in
+    let m = g.V.Algebra.model in
+    let f = g.V.Algebra.means in
+    let one = c.in_ok-built in
+    let two = c.in-Ok in
     record {
-      names = c .fork .ensures .names;
-      plan = perhaps-forked m
-          (state-of m f (c .args .rack .now .core)) (state-of m f (c .table .last .self .core)) (state-of m f (c .table-2 .last .self .core)) (state-of m f (c .fork .last .rack .core))
-          (c .args .sweep .now) (c .args .radar .now) (one .built .number) (two .built .number)
-          (one .ensures tt .answers) (two .ensures tt .answers)
-          (one .built .ticket) (two .built .ticket) (one .ensures tt .ticket) (two .ensures tt .ticket)
-          (c .fork .result) (c .fork .ensures .ticket) (c .fork .ensures .answers);
+      names = c.fork.ensures.names;
+      plan = perhaps_forked m
+          (state_of m f c.args.rack.now.core) (state_of m f c.table.new.self.core) (state_of m f c.table-2.new.self.core) (state_of m f c.fork.new.rack.core)
+          c.args.sweep.now c.args.radar.now one.built.number two.built.number
+          one.ensures.answers two.ensures.answers
+          one.built.ticket two.built.ticket one.ensures.ticket two.ensures.ticket
+          c.fork.result c.fork.ensures.ticket c.fork.ensures.answers;
     }

@@ -1,23 +1,18 @@
-use mathlib.Core.List.{[], _∷_, _++_}
-use mathlib.Core.Path.{_∙_}
-use Rattle·std.specs.declared.result.Result.{Result}
-use Rattle·std.specs.declared.result.Result.the-variants.{Ok, Err}
-use Rattle·std.specs.Of.String.{string-bytes}
-use Rattle·std.specs.Vec.{made}
-use Rattle·lines·proofs.printout.printout.Needs as need
+use Rattle.std.proofs.Common.{[], ◌∷◌, ◌++◌, IfOk, Ok, Err, string_bytes, Result, ◌∙◌}
+use Rattle.lines.proofs.printout.printout.Goals as goal
 
 -- what is made has all that follows of it
-made-then : {X Y : Type 0} (r : Result X Y) (P Q : X → Type 0) → ((x : X) → P x → Q x) → made r P → made r Q
-made-then (Ok x) P Q f p = f x p
-made-then (Err y) P Q f p = tt
+made_then : {X Y : Type 0} (r : Result X Y) (P Q : X → Type 0) → ((x : X) → P x → Q x) → IfOk r P → IfOk r Q
+made_then (Ok x) P Q f p = f x p
+made_then (Err y) P Q f p = tt
 
-pub returns : need.returns
-returns c = made-then (c .three .result) _ _ (λ s says. record {
-  worst-line = string-bytes (c .in-Continue-worst .worst);
-  best-line = string-bytes (c .in-Continue-best .best);
-  ports-line = string-bytes (c .in-Continue-ports .ports);
-  of-worst = c .in-Continue-worst .ensures tt;
-  of-best = c .in-Continue-best .ensures tt;
-  of-ports = c .in-Continue-ports .ensures tt;
-  says = says ∙ (λ i. c .as-str .ensures .value i ++ (10 ∷ (c .as-str-2 .ensures .value i ++ (10 ∷ (c .as-str-3 .ensures .value i ++ (10 ∷ []))))));
-}) (c .three .ensures)
+pub returns : goal.returns
+returns c = made_then c.three.result _ _ (λ s says. record {
+  worst_line = string_bytes c.in_ok-worst.worst;
+  best_line = string_bytes c.in_ok-best.best;
+  ports_line = string_bytes c.in_ok-ports.ports;
+  of_worst = c.in_ok-worst.ensures;
+  of_best = c.in_ok-best.ensures;
+  of_ports = c.in_ok-ports.ensures;
+  says = says ∙ (λ i. c.as_str.ensures.value i ++ (10 ∷ (c.as_str-2.ensures.value i ++ (10 ∷ (c.as_str-3.ensures.value i ++ (10 ∷ []))))));
+}) c.three.ensures

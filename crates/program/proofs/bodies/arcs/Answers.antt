@@ -1,24 +1,21 @@
-use mathlib.Core.Path.{_≡_, sym, ap, _∙_, subst}
-use mathlib.Core.List.{List, [], _∷_, _++_, append-assoc}
-use Prim.Native.Nat.{ℕ}
-use Rattle·std.specs.Joined.{joined}
-use Rattle·std.specs.Vec.{Every}
-use Rattle·std.specs.Results.{isOk}
-use Rattle·std.proofs.Told.{chosen, every-snoc}
-use Rattle·std.proofs.shelf.Lists.{joined-more}
-use Rattle·algebra.specs.declared.arc.Arc.{Arc}
-use Rattle·program·specs.Format.{FitsArc, arc-bytes}
-use Rattle·program·proofs.bodies.arcs.Needs as need
+use Rattle.std.proofs.Common.{◌≡◌, ℕ, List, [], ◌∷◌, ◌++◌, is_ok, sym, ap, ◌∙◌, subst, append_assoc}
+use Rattle.std.specs.List.{flat_map, AllByRecursion}
+use Rattle.std.proofs.ResultArms.{chosen}
+use Rattle.std.proofs.slice.Lists.{all_by_recursion_push}
+use Rattle.std.proofs.lemmas.List.{flat_map_more}
+use Rattle.algebra.specs.declared.arc.Arc.{Arc}
+use Rattle.program.specs.Format.{FitsArc, arc_bytes}
+use Rattle.program.proofs.bodies.arcs.Goals as goal
 
 -- one arc more, with fewer bytes left
-one-more : (bs : List ℕ) (xs : List Arc) (left : List ℕ) (a : Arc) (rest : List ℕ) → Every FitsArc xs × (bs ≡ joined arc-bytes xs ++ left) → FitsArc a × (left ≡ arc-bytes a ++ rest) → Every FitsArc (xs ++ a ∷ []) × (bs ≡ joined arc-bytes (xs ++ a ∷ []) ++ rest)
-one-more bs xs left a rest (fit, is) (fits, first) = (
-  every-snoc FitsArc xs a fit fits,
-  is ∙ ap (λ (l : List ℕ). joined arc-bytes xs ++ l) first ∙ sym (append-assoc (joined arc-bytes xs) (arc-bytes a) rest) ∙ ap (λ (l : List ℕ). l ++ rest) (joined-more arc-bytes [] xs a),
+one_more : (bs : List ℕ) (xs : List Arc) (left : List ℕ) (a : Arc) (rest : List ℕ) → AllByRecursion FitsArc xs × (bs ≡ flat_map arc_bytes xs ++ left) → FitsArc a × (left ≡ arc_bytes a ++ rest) → AllByRecursion FitsArc (xs ++ a ∷ []) × (bs ≡ flat_map arc_bytes (xs ++ a ∷ []) ++ rest)
+one_more bs xs left a rest (fit, is) (fits, first) = (
+  all_by_recursion_push FitsArc xs a fit fits,
+  is ∙ ap (λ (l : List ℕ). flat_map arc_bytes xs ++ l) first ∙ sym (append_assoc (flat_map arc_bytes xs) (arc_bytes a) rest) ∙ ap (λ (l : List ℕ). l ++ rest) (flat_map_more arc_bytes [] xs a),
 )
 
-pub loop-arc-again : need.loop-arc-again
-loop-arc-again c =
-    let pushed = chosen _ _ _ _ (c .push .ensures .items) (ap isOk (c .in-Continue-push .was tt)) in
-    subst (λ (l : List Arc). Every FitsArc l × (c .args .bytes .now ≡ joined arc-bytes l ++ c .in-Some .rest .now)) (sym pushed)
-    (one-more _ _ _ _ _ (c .loop-arc .inv) (c .in-Some .ensures tt))
+pub loop-arc-preserved : goal.loop-arc-preserved
+loop-arc-preserved c =
+    let pushed = chosen _ _ _ _ c.push.ensures.items (ap is_ok c.in_ok-push.was) in
+    subst (λ (l : List Arc). AllByRecursion FitsArc l × (c.args.bytes.now ≡ flat_map arc_bytes l ++ c.in-Some.rest.now)) (sym pushed)
+    (one_more _ _ _ _ _ c.loop-arc.invariant c.in-Some.ensures)

@@ -1,7 +1,6 @@
-use native.Mathlib.Omega.{arith}
-use borrow.Author.Tests.{ltb-true, ltb-false}
-use Rattle·program·proofs.Numbers.{exactly}
-use Rattle·program·proofs.bodies.shelf.Needs as need
+use Rattle.std.proofs.Common.{arith, ltb-false, ltb-true}
+use Rattle.program.proofs.Numbers.{exactly}
+use Rattle.program.proofs.bodies.shelf.Goals as goal
 
-pub returns : need.returns
+pub returns : goal.returns
 returns c = (omega arith, exactly 1 _ (omega (arith, ltb-true, ltb-false)))

@@ -1,34 +1,33 @@
-use mathlib.Core.Path.{_≡_, sym, _∙_}
-use native.Mathlib.Omega.{arith}
-use borrow.Author.Tests.{ltb-false}
-use Rattle·std.proofs.shelf.Lists.{take-rest}
-use Rattle·std.proofs.shelf.Results.{err-from-errBy, cases-at-some}
-use Rattle·program·specs.Kinds.{number}
-use Rattle·program·specs.Format.{kind-in}
-use Rattle·program·proofs.Framing.{Parted, spelled, stops}
-use Rattle·program·proofs.read.read.Needs as need
-use Rattle·program·proofs.read.read.Needs.{In-Continue-kind}
+use Rattle.std.proofs.Common.{◌≡◌, sym, ◌∙◌, arith, ltb-false}
+use Rattle.std.proofs.lemmas.List.{take_rest}
+use Rattle.std.proofs.lemmas.Result.{err_from_is_err_and}
+use Rattle.std.proofs.lemmas.Option.{MatchOption-at_some}
+use Rattle.program.specs.Kinds.{number}
+use Rattle.program.specs.Format.{kind_in}
+use Rattle.program.proofs.Framing.{Parted, spelled, stops}
+use Rattle.program.proofs.read.read.Goals as goal
+use Rattle.program.proofs.read.read.Goals.{In_ok-kind}
 
-parts : (c : In-Continue-kind) → Parted (c .args .bytes .now) (c .split-at .result .0 .now) (c .split-at .result .1 .now)
+parts : (c : In_ok-kind) → Parted c.args.bytes.now c.split_at.result.0.now c.split_at.result.1.now
 parts c = record {
   room = omega (arith, ltb-false);
-  split = sym (take-rest (c .args .bytes .now) 4) ∙ c .split-at .ensures .places .0;
-  long-is = omega (arith, ltb-false, c .split-at .ensures .front-len);
+  split = sym (take_rest c.args.bytes.now 4) ∙ c.split_at.ensures.by_index.0;
+  long_is = omega (arith, ltb-false, c.split_at.ensures.front_len);
 }
 
-known : (c : In-Continue-kind) → kind-in (c .args .bytes .now) ≡ number (c .in-Continue-kind .kind)
+known : (c : In_ok-kind) → kind_in c.args.bytes.now ≡ number c.in_ok-kind.kind
 known c =
-    sym (c .from-le-bytes-2 .ensures)
-    ∙ cases-at-some _ (λ k. c .from-le-bytes-2 .result ≡ number k) _ (c .in-Continue-kind .ensures tt .back) (c .of .ensures)
+    sym c.from_le_bytes-2.ensures
+    ∙ MatchOption-at_some _ (λ k. c.from_le_bytes-2.result ≡ number k) _ c.in_ok-kind.ensures.ok_part c.of.ensures
 
-pub returns-in-Break-record : need.returns-in-Break-record
-returns-in-Break-record c =
-    let p = err-from-errBy (c .from-residual-in-Break-record .result) (c .from-residual-in-Break-record .ensures .1) in
-    let at = need.at·returns-in-Break-record c .In-Continue-kind in
-    rw (p .1, p .2) (stops (parts at) _ _ (known at) (c .in-Break-record .ensures tt))
+pub returns-in_err-record : goal.returns-in_err-record
+returns-in_err-record c =
+    let p = err_from_is_err_and c.from_residual-in_err-record.result c.from_residual-in_err-record.ensures.1 in
+    let at = (goal.at.returns-in_err-record c).In_ok-kind in
+    rw (p.1, p.2) (stops (parts at) _ _ (known at) c.in_err-record.ensures)
 
-pub returns : need.returns
+pub returns : goal.returns
 returns c =
-    let at = need.at·returns c .In-Continue-kind in
-    let is = c .in-Continue-record .ensures tt in
-    spelled (parts at) (λ i. omega (arith, c .typed .bytes i)) _ _ (known at) (is .0) (is .1) (is .2)
+    let at = (goal.at.returns c).In_ok-kind in
+    let is = c.in_ok-record.ensures in
+    spelled (parts at) (λ i. omega (arith, c.type_inv.bytes i)) _ _ (known at) is.0 is.1 is.2

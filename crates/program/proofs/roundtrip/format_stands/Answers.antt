@@ -1,5 +1,5 @@
-use Rattle·program·proofs.Readings.{one-reading, round-trip, file-round-trip}
-use Rattle·program·proofs.roundtrip.format_stands.Needs as need
+use Rattle.program.proofs.Readings.{one_reading, round_trip, file_round_trip}
+use Rattle.program.proofs.roundtrip.format_stands.Goals as goal
 
-pub returns : need.returns
-returns c = record { one = one-reading; back = round-trip; files = file-round-trip }
+pub returns : goal.returns
+returns c = record { one = one_reading; back = round_trip; files = file_round_trip }

@@ -1,24 +1,20 @@
-use mathlib.Core.Path.{_≡_, sym, ap, _∙_}
-use mathlib.Core.List.{List}
-use Prim.Native.Nat.{ℕ, _+_, min}
-use native.Mathlib.Omega.{arith}
-use lib.ListN.{length}
-use Rattle·std.proofs.shelf.Lists.{at-drop-all}
-use Rattle·program·specs.declared.record.Record.{Record}
-use Rattle·program·specs.Weights.{all-labels}
-use Rattle·program·proofs.Sums.{count-next}
-use Rattle·program·proofs.weights.count.Needs as need
+use Rattle.std.proofs.Common.{◌≡◌, ℕ, ◌+◌, min, List, length, sym, ap, ◌∙◌, arith}
+use Rattle.std.proofs.lemmas.List.{at_drop_all}
+use Rattle.program.specs.declared.record.Record.{Record}
+use Rattle.program.specs.Weights.{all_labels}
+use Rattle.program.proofs.Sums.{count_next}
+use Rattle.program.proofs.weights.count.Goals as goal
 
-pub loop-item-again : need.loop-item-again
-loop-item-again c = (
-  omega (arith, c .saturating-add-sum .ensures),
-  count-next _ _ 18446744073709551615 (c .args .records .now) (c .loop-item .item-index) _ (c .loop-item-test .taken) (c .item-item .is)
-      (c .saturating-add-sum .ensures ∙ ap (λ (n : ℕ). min (c .loop-item .sum + n) 18446744073709551615) (c .label-count .ensures))
-      ∙ c .loop-item .inv .1,
+pub loop-item-preserved : goal.loop-item-preserved
+loop-item-preserved c = (
+  omega (arith, c.saturating_add-sum.ensures),
+  count_next _ _ 18446744073709551615 c.args.records.now c.loop-item.item-index _ c.loop-item-test.true c.item-item.is
+      (c.saturating_add-sum.ensures ∙ ap (λ (n : ℕ). min (c.loop-item.sum + n) 18446744073709551615) c.label_count.ensures)
+      ∙ c.loop-item.invariant.1,
 )
 
-pub returns : need.returns
+pub returns : goal.returns
 returns c =
-    let none = at-drop-all (λ (l : List Record). length (all-labels l)) (c .args .records .now) (c .loop-item .item-index) (c .loop-item-test .left) in
-    let sum : min (c .loop-item .sum + 0) 18446744073709551615 ≡ c .loop-item .sum = omega (arith, c .loop-item .inv .0) in
-    sym sum ∙ ap (λ (n : ℕ). min (c .loop-item .sum + n) 18446744073709551615) (sym none) ∙ c .loop-item .inv .1
+    let none = at_drop_all (λ (l : List Record). length (all_labels l)) c.args.records.now c.loop-item.item-index c.loop-item-test.false in
+    let sum : min (c.loop-item.sum + 0) 18446744073709551615 ≡ c.loop-item.sum = omega (arith, c.loop-item.invariant.0) in
+    sym sum ∙ ap (λ (n : ℕ). min (c.loop-item.sum + n) 18446744073709551615) (sym none) ∙ c.loop-item.invariant.1

@@ -1,5 +1,5 @@
-use Rattle·rows·proofs.PhaseLaws.{phases}
-use Rattle·rows·proofs.phases.phases_stand.Needs as need
+use Rattle.rows.proofs.PhaseLaws.{phases}
+use Rattle.rows.proofs.phases.phases_stand.Goals as goal
 
-pub returns : need.returns
+pub returns : goal.returns
 returns c = phases

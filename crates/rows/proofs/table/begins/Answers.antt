@@ -1,9 +1,8 @@
-use mathlib.Core.Path.{sym, _∙_}
-use borrow.Author.Needs.{needs}
-use Rattle·std.proofs.shelf.Tests.{le-ltb}
-use Rattle·rows·proofs.SetLaws.{has-past}
-use Rattle·rows·proofs.table.begins.Needs as need
+use Rattle.std.proofs.Common.{sym, ◌∙◌, rules}
+use Rattle.std.proofs.lemmas.Bool.{le-ltb}
+use Rattle.rows.proofs.SetLaws.{has_past}
+use Rattle.rows.proofs.table.begins.Goals as goal
 
-pub returns-else-arc-lt64 : need.returns-else-arc-lt64
+pub returns-else-arc-lt64 : goal.returns-else-arc-lt64
 returns-else-arc-lt64 c =
-    le-ltb (c .args .arc .from) 64 (c .if-arc-lt64 .left) ∙ sym (has-past (c .args .set) 64 (c .args .arc .from) (search needs) (c .if-arc-lt64 .left))
+    le-ltb c.args.arc.from 64 c.if-arc-lt64.false ∙ sym (has_past c.args.set 64 c.args.arc.from (search rules) c.if-arc-lt64.false)

@@ -1,74 +1,70 @@
-use mathlib.Core.Logic.{inr}
-use mathlib.Core.Path.{ap, _∙_}
-use Prim.Native.Nat.{_+_, _≤_}
-use native.Mathlib.Omega.{arith}
-use lib.ListN.{take}
-use Rattle·rows·specs.Pieces.{meanings}
-use Rattle·rows·specs.Rules.Rule.{rows}
-use Rattle·rows·specs.Search.{noted}
-use Rattle·rows·proofs.Unrolling.{shape-of, agree-below, shelf-keeps, same-past, kept-below}
-use Rattle·rows·proofs.unroll.unroll.Needs as need
+use Rattle.std.proofs.Common.{◌+◌, ◌≤◌, take, ap, ◌∙◌, inr, arith}
+use Rattle.rows.specs.Pieces.{meanings}
+use Rattle.rows.specs.Rules.Rule.{rows}
+use Rattle.rows.specs.Search.{noted}
+use Rattle.rows.proofs.Unrolling.{shape_of, agree_below, shelf_keeps, same_past, kept_below}
+use Rattle.rows.proofs.unroll.unroll.Goals as goal
 
-pub returns-in-rest : need.returns-in-rest
-returns-in-rest g c =
-    let kept = c .walk .ensures .below in
+pub returns-in_default : goal.returns-in_default
+returns-in_default g c =
+    let kept = c.walk.ensures.below in
     record {
-      past = c .walk .ensures .past;
-      others = λ j low out. agree-below _ _ 2048 kept j low;
-      cases = (c .in-rest .ensures tt .cases, kept);
+      past = c.walk.ensures.past;
+      others = λ j low out. agree_below _ _ 2048 kept j low;
+      cases = (c.in_default.ensures.cases, kept);
     }
 
-pub returns-then-transient-period-gt64 : need.returns-then-transient-period-gt64
+pub returns-then-transient-period-gt64 : goal.returns-then-transient-period-gt64
 returns-then-transient-period-gt64 g c =
-    let m = g .V·Algebra .model in
-    let f = g .V·Algebra .means in
-    let rule = g .R·RowRule .works (c .args .rule .now) m (meanings f (take 2048 (c .args .cells .now))) in
-    let kept = c .walk .ensures .below in
-    let turn = c .in-Some .ensures tt .cases in
-    let number = c .in-Some .field-0 .number in
-    let earlier = c .in-Some .field-0 .earlier in
+    let m = g.V.Algebra.model in
+    let f = g.V.Algebra.means in
+    let rule = g.R.RowRule.works c.args.rule.now m (meanings f (take 2048 c.args.cells.now)) in
+    let kept = c.walk.ensures.below in
+    let turn = c.in-Some.ensures.cases in
+    let number = c.in-Some.field-0.number in
+    let earlier = c.in-Some.field-0.earlier in
     record {
-      past = c .walk .ensures .past;
-      others = λ j low out. agree-below _ _ 2048 kept j low;
+      past = c.walk.ensures.past;
+      others = λ j low out. agree_below _ _ 2048 kept j low;
       cases = (
         record {
           reply = number;
-          transient = c .least-transient-transient .result;
-          period = c .least-period-period .result;
-          soon = turn .0;
-          first = record { earlier = (earlier, turn .1, turn .2); fresh = turn .3 };
-          least = shape-of {m = m} rule (noted m (meanings f (c .walk .last .cells))) earlier number _ _ (turn .1) (turn .2) (turn .4) (c .least-period-period .ensures) (c .least-transient-transient .ensures);
-          long = c .if-transient-period-gt64 .taken;
+          transient = c.least_transient-transient.result;
+          period = c.least_period-period.result;
+          soon = turn.0;
+          first = record { earlier = (earlier, turn.1, turn.2); fresh = turn.3 };
+          least = shape_of {m = m} rule (noted m (meanings f c.walk.new.cells)) earlier number _ _ turn.1 turn.2 turn.4 c.least_period-period.ensures c.least_transient-transient.ensures;
+          long = c.if-transient-period-gt64.true;
         },
         kept,
       );
     }
 
-pub returns : need.returns
+pub returns : goal.returns
 returns g c =
-    let m = g .V·Algebra .model in
-    let f = g .V·Algebra .means in
-    let rule = g .R·RowRule .works (c .args .rule .now) m (meanings f (take 2048 (c .args .cells .now))) in
-    let kept = c .walk .ensures .below in
-    let turn = c .in-Some .ensures tt .cases in
-    let number = c .in-Some .field-0 .number in
-    let earlier = c .in-Some .field-0 .earlier in
-    let before = c .walk .last .cells in
-    let after = c .fill .last .cells in
-    let shelf = c .args .shelf in
-    let t = c .least-transient-transient .result in
-    let d = c .least-period-period .result in
-    let filled = c .fill .ensures in
-    let least = shape-of {m = m} rule (noted m (meanings f before)) earlier number d t (turn .1) (turn .2) (turn .4) (c .least-period-period .ensures) (c .least-transient-transient .ensures) in
-    let few : t + d ≤ number = omega (arith, turn .1) in
+    let m = g.V.Algebra.model in
+    let f = g.V.Algebra.means in
+    let rule = g.R.RowRule.works c.args.rule.now m (meanings f (take 2048 c.args.cells.now)) in
+    let kept = c.walk.ensures.below in
+    let turn = c.in-Some.ensures.cases in
+    let number = c.in-Some.field-0.number in
+    let earlier = c.in-Some.field-0.earlier in
+    let before = c.walk.new.cells in
+    let after = c.fill.new.cells in
+    let shelf = c.args.shelf in
+    let t = c.least_transient-transient.result in
+    let d = c.least_period-period.result in
+    let filled = c.fill.ensures in
+    let least = shape_of {m = m} rule (noted m (meanings f before)) earlier number d t turn.1 turn.2 turn.4 c.least_period-period.ensures c.least_transient-transient.ensures in
+    let few : t + d ≤ number = omega (arith, turn.1) in
     record {
-      past = same-past after before 4096 (filled .len) (λ j far. filled .others j (inr (omega arith))) ∙ c .walk .ensures .past;
-      others = λ j low out. filled .others j out ∙ agree-below _ _ 2048 kept j low;
+      past = same_past after before 4096 filled.len (λ j far. filled.others j (inr (omega arith))) ∙ c.walk.ensures.past;
+      others = λ j low out. filled.others j out ∙ agree_below _ _ 2048 kept j low;
       cases = record {
-        soon = turn .0;
-        first = record { earlier = (earlier, turn .1, turn .2); fresh = turn .3 };
-        keeps = kept-below m f _ after shelf t d (omega arith)
-            (c .if-transient-period-gt64 .left)
-            (shelf-keeps m f (rows rule) before after shelf t d number filled (c .if-transient-period-gt64 .left) few (turn .4) least);
+        soon = turn.0;
+        first = record { earlier = (earlier, turn.1, turn.2); fresh = turn.3 };
+        keeps = kept_below m f _ after shelf t d (omega arith)
+            c.if-transient-period-gt64.false
+            (shelf_keeps m f (rows rule) before after shelf t d number filled c.if-transient-period-gt64.false few turn.4 least);
       };
     }

@@ -1,5 +1,5 @@
-use Rattle·rows·proofs.Periods.{repeating}
-use Rattle·rows·proofs.walk.repeating_stands.Needs as need
+use Rattle.rows.proofs.Periods.{repeating}
+use Rattle.rows.proofs.walk.repeating_stands.Goals as goal
 
-pub returns : need.returns
+pub returns : goal.returns
 returns g c = repeating

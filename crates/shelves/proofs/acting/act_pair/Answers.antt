@@ -1,35 +1,30 @@
-use mathlib.Core.List.{[], _∷_}
-use mathlib.Core.Path.{sym, ap, _∙_}
-use Prim.Native.Nat.{ℕ}
-use Rattle·std.specs.declared.option.Option.{Option}
-use Rattle·std.specs.declared.option.Option.the-variants.{Some}
-use Rattle·std.specs.Options.{valueOr}
-use Rattle·shelves·specs.declared.refusal.Refusal.the-variants.{NeverRepeats, TooLong}
-use Rattle·shelves·specs.Calls.{pair}
-use Rattle·shelves·specs.Held.{state-of}
-use Rattle·shelves·specs.Questions.{Yes, pair-rule}
-use Rattle·shelves·specs.Refusals.{early}
-use Rattle·shelves·specs.State.{ShelfState, shelf-rows, shelf-at}
-use Rattle·shelves·proofs.Asking.{all-then, no-after, stop-no, there}
-use Rattle·shelves·proofs.acting.act_pair.Needs as need
+use Rattle.std.proofs.Common.{ℕ, [], ◌∷◌, Some, Option, unwrap_or, sym, ap, ◌∙◌}
+use Rattle.shelves.specs.declared.refusal.Refusal.TheVariants.{NeverRepeats, TooLong}
+use Rattle.shelves.specs.Calls.{pair}
+use Rattle.shelves.specs.Held.{state_of}
+use Rattle.shelves.specs.Questions.{Yes, pair_rule}
+use Rattle.shelves.specs.Refusals.{early}
+use Rattle.shelves.specs.State.{ShelfState, shelf_rows, shelf_at}
+use Rattle.shelves.proofs.Asking.{all_then, no_after, stop_no, there}
+use Rattle.shelves.proofs.acting.act_pair.Goals as goal
 
-pub returns-in-Err : need.returns-in-Err
+pub returns-in-Err : goal.returns-in-Err
 returns-in-Err g c =
-    let m = g .V·Algebra .model in
-    let s = state-of m (g .V·Algebra .means) (c .args .core .now) in
-    let found = c .in-Err .ensures tt in
-    (no-after (Yes m s (pair (c .args .kind) (c .args .first) (c .args .second))) early (NeverRepeats ∷ TooLong ∷ []) (c .in-Err .found) (c .pre .1) (stop-no (pair-rule m (c .args .kind) (shelf-rows s (c .args .first)) (shelf-rows s (c .args .second))) (c .in-Err .found) (found .0)), found .1)
+    let m = g.V.Algebra.model in
+    let s = state_of m g.V.Algebra.means c.args.core.now in
+    let found = c.in-Err.ensures in
+    (no_after (Yes m s (pair c.args.kind c.args.first c.args.second)) early (NeverRepeats ∷ TooLong ∷ []) c.in-Err.found c.requires.1 (stop_no (pair_rule m c.args.kind (shelf_rows s c.args.first) (shelf_rows s c.args.second)) c.in-Err.found found.0), found.1)
 
-pub returns-in-Ok : need.returns-in-Ok
+pub returns-in-Ok : goal.returns-in-Ok
 returns-in-Ok g c =
-    let m = g .V·Algebra .model in
-    let s = state-of m (g .V·Algebra .means) (c .args .core .now) in
-    let done = c .in-Ok .ensures tt in
-    let puts = done .1 in
-    let at = ap (λ (x : ShelfState). x .step) (c .at .ensures) in
-    let at-2 = ap (λ (x : ShelfState). x .step) (c .at-2 .ensures) in
-    let first = there (shelf-at s (c .args .first) .step) (c .pre .1 .1 .1 .1 .0 .0) ∙ ap (λ (o : Option ℕ). Some (valueOr o 0)) (sym at) ∙ ap Some (sym (c .unwrap-or-i .ensures)) in
-    let second = there (shelf-at s (c .args .second) .step) (c .pre .1 .1 .1 .1 .0 .1 .0) ∙ ap (λ (o : Option ℕ). Some (valueOr o 0)) (sym at-2) ∙ ap Some (sym (c .unwrap-or-j .ensures)) in (
-      all-then (Yes m s (pair (c .args .kind) (c .args .first) (c .args .second))) early (NeverRepeats ∷ TooLong ∷ []) (c .pre .1) (((c .in-Ok .number, done .0 .0, done .0 .1), tt), (((puts .transient, puts .period, puts .keeps .least, puts .short), tt), tt)),
-      (done .0, (c .unwrap-or-i .result, c .unwrap-or-j .result, state-of m (g .V·Algebra .means) (c .put-pair .last .core), first, second, puts, c .empty .ensures)),
+    let m = g.V.Algebra.model in
+    let s = state_of m g.V.Algebra.means c.args.core.now in
+    let done = c.in-Ok.ensures in
+    let puts = done.1 in
+    let at = ap (λ (x : ShelfState). x.step) c.at.ensures in
+    let at_2 = ap (λ (x : ShelfState). x.step) c.at-2.ensures in
+    let first = there (shelf_at s c.args.first).step c.requires.1.1.1.1.0.0 ∙ ap (λ (o : Option ℕ). Some (unwrap_or o 0)) (sym at) ∙ ap Some (sym c.unwrap_or-i.ensures) in
+    let second = there (shelf_at s c.args.second).step c.requires.1.1.1.1.0.1.0 ∙ ap (λ (o : Option ℕ). Some (unwrap_or o 0)) (sym at_2) ∙ ap Some (sym c.unwrap_or-j.ensures) in (
+      all_then (Yes m s (pair c.args.kind c.args.first c.args.second)) early (NeverRepeats ∷ TooLong ∷ []) c.requires.1 (((c.in-Ok.number, done.0.0, done.0.1), tt), (((puts.transient, puts.period, puts.keeps.least, puts.short), tt), tt)),
+      (done.0, (c.unwrap_or-i.result, c.unwrap_or-j.result, state_of m g.V.Algebra.means c.put_pair.new.core, first, second, puts, c.empty.ensures)),
     )

@@ -1,35 +1,33 @@
-use mathlib.Core.List.{[], _∷_}
-use mathlib.Core.Path.{_≡_, refl, ap, subst, _∙_}
-use lib.ListN.{take}
-use Rattle·rows.specs.Pieces.{Rows, meanings, on-shelf, pause-at, exit-at, size}
-use Rattle·runs.specs.Figure.{figure}
-use Rattle·shelves·specs.declared.refusal.Refusal.the-variants.{NeverRepeats, TooLong}
-use Rattle·shelves·specs.Calls.{report}
-use Rattle·shelves·specs.Effects.{FirstTick}
-use Rattle·shelves·specs.Held.{state-of}
-use Rattle·shelves·specs.Questions.{Yes}
-use Rattle·shelves·specs.Refusals.{early}
-use Rattle·shelves·specs.Told.{report-of}
-use Rattle·shelves·proofs.Asking.{all-then}
-use Rattle·shelves·proofs.acting.act_report.Needs as need
+use Rattle.std.proofs.Common.{◌≡◌, [], ◌∷◌, take, refl, ap, ◌∙◌, subst}
+use Rattle.rows.specs.Pieces.{Rows, meanings, on_shelf, pause_at, exit_at, size}
+use Rattle.runs.specs.Figure.{figure}
+use Rattle.shelves.specs.declared.refusal.Refusal.TheVariants.{NeverRepeats, TooLong}
+use Rattle.shelves.specs.Calls.{report}
+use Rattle.shelves.specs.Effects.{FirstTick}
+use Rattle.shelves.specs.Held.{state_of}
+use Rattle.shelves.specs.Questions.{Yes}
+use Rattle.shelves.specs.Refusals.{early}
+use Rattle.shelves.specs.Told.{report_of}
+use Rattle.shelves.proofs.Asking.{all_then}
+use Rattle.shelves.proofs.acting.act_report.Goals as goal
 
-pub returns : need.returns
+pub returns : goal.returns
 returns g c =
-    let m = g .V·Algebra .model in
-    let f = g .V·Algebra .means in
-    let core = c .args .core .now in
-    let s = state-of m f core in
-    let p = c .piece-shown .ensures in
-    let r = c .report .ensures in
-    let told = report-of m f (c .report .result) in
-    let cells = meanings f (take 2048 (core .cells .now)) in
-    let is : _≡_ {A = Rows m} _ _ = λ i. on-shelf m cells (p .shelf i) (p .transient i) (p .period i) in (
-      all-then (Yes m s (report (c .args .shelf))) early (NeverRepeats ∷ TooLong ∷ []) (c .pre .1) (tt, (tt, tt)),
+    let m = g.V.Algebra.model in
+    let f = g.V.Algebra.means in
+    let core = c.args.core.now in
+    let s = state_of m f core in
+    let p = c.piece-shown.ensures in
+    let r = c.report.ensures in
+    let told = report_of m f c.report.result in
+    let cells = meanings f (take 2048 core.cells.now) in
+    let is : ◌≡◌ {A = Rows m} _ _ = λ i. on_shelf m cells (p.shelf i) (p.transient i) (p.period i) in (
+      all_then (Yes m s (report c.args.shelf)) early (NeverRepeats ∷ TooLong ∷ []) c.requires.1 (tt, (tt, tt)),
       record {
-        figure = r .figure ∙ ap (λ (given : Rows m). figure m (pause-at given) (exit-at given) (size given)) is;
-        tick = subst (λ (given : Rows m). FirstTick m (m .chooses) (told .figure) given (told .tick)) is (r .tick);
-        transient = r .transient ∙ p .transient;
-        period = r .period ∙ p .period;
+        figure = r.figure ∙ ap (λ (given : Rows m). figure m (pause_at given) (exit_at given) (size given)) is;
+        tick = subst (λ (given : Rows m). FirstTick m m.chooses told.figure given told.tick) is r.tick;
+        transient = r.transient ∙ p.transient;
+        period = r.period ∙ p.period;
       },
       refl,
     )

@@ -1,19 +1,19 @@
-use mathlib.Core.Path.{sym, subst}
-use Rattle·shelves·specs.Calls.{reported}
-use Rattle·shelves·specs.Effects.{Does}
-use Rattle·shelves·specs.Held.{state-of, call-of}
-use Rattle·shelves·specs.Questions.{Yes, AllYes}
-use Rattle·shelves·specs.Refusals.{early}
-use Rattle·shelves·specs.Told.{report-of}
-use Rattle·shelves·proofs.answering.act.Needs as need
+use Rattle.std.proofs.Common.{sym, subst}
+use Rattle.shelves.specs.Calls.{reported}
+use Rattle.shelves.specs.Effects.{Does}
+use Rattle.shelves.specs.Held.{state_of, call_of}
+use Rattle.shelves.specs.Questions.{Yes, AllYes}
+use Rattle.shelves.specs.Refusals.{early}
+use Rattle.shelves.specs.Told.{report_of}
+use Rattle.shelves.proofs.answering.act.Goals as goal
 
-pub act-table-requires : need.act-table-requires
-act-table-requires g c κs =
-    (c .pre .0, subst (λ call. AllYes (Yes (g .V·Algebra .model) (state-of (g .V·Algebra .model) (g .V·Algebra .means) (c .args .core .now)) (call-of call)) early) (c .in-Table .is) (c .pre .1))
+pub act_table-requires : goal.act_table-requires
+act_table-requires g c =
+    (c.requires.0, subst (λ call. AllYes (Yes g.V.Algebra.model (state_of g.V.Algebra.model g.V.Algebra.means c.args.core.now) (call_of call)) early) c.in-Table.is c.requires.1)
 
-pub returns-in-Report : need.returns-in-Report
+pub returns-in-Report : goal.returns-in-Report
 returns-in-Report g c =
-    let m = g .V·Algebra .model in
-    let f = g .V·Algebra .means in
-    let s = state-of m f (c .args .core .now) in
-    subst (λ call. Does m (call-of call) (reported (report-of m f (c .act-report .result))) s s) (sym (c .in-Report .is)) (c .act-report .ensures)
+    let m = g.V.Algebra.model in
+    let f = g.V.Algebra.means in
+    let s = state_of m f c.args.core.now in
+    subst (λ call. Does m (call_of call) (reported (report_of m f c.act_report.result)) s s) (sym c.in-Report.is) c.act_report.ensures

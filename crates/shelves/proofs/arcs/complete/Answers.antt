@@ -1,20 +1,18 @@
-use mathlib.Core.Path.{refl}
-use native.Mathlib.Omega.{arith}
-use borrow.Author.Count.{below-more}
-use Rattle·std.proofs.shelf.Tests.{false≢true}
-use Rattle·shelves·specs.Questions.{Begins}
-use Rattle·shelves·proofs.Elements.{passes}
-use Rattle·shelves·proofs.arcs.complete.Needs as need
+use Rattle.std.proofs.Common.{refl, arith, below_more}
+use Rattle.std.proofs.lemmas.Bool.{false≢true}
+use Rattle.shelves.specs.Questions.{Begins}
+use Rattle.shelves.proofs.Elements.{passes}
+use Rattle.shelves.proofs.arcs.complete.Goals as goal
 
-pub loop-q-again : need.loop-q-again
-loop-q-again c = below-more (Begins (c .args .arcs .now)) (c .loop-q .q) (c .loop-q .inv) (c .if-not-begun .ensures tt .0 refl)
+pub loop-q-preserved : goal.loop-q-preserved
+loop-q-preserved c = below_more (Begins c.args.arcs.now) c.loop-q.q c.loop-q.invariant (c.if-not-begun.ensures.0 refl)
 
-pub returns-then-not-begun : need.returns-then-not-begun
+pub returns-then-not-begun : goal.returns-then-not-begun
 returns-then-not-begun c = (
   λ e. absurd (false≢true e),
-  λ all. c .if-not-begun .ensures tt .1 (all (c .loop-q .q) (c .states-q-end .ensures (c .loop-q .q) .0 (c .loop-q-test .taken))),
+  λ all. c.if-not-begun.ensures.1 (all c.loop-q.q ((c.states-q-end.ensures c.loop-q.q).0 c.loop-q-test.true)),
 )
 
-pub returns : need.returns
+pub returns : goal.returns
 returns c =
-    passes (λ q n. let few = c .states-q-end .ensures q .1 n in c .loop-q .inv q (omega (arith, few)))
+    passes (λ q n. let few = (c.states-q-end.ensures q).1 n in c.loop-q.invariant q (omega (arith, few)))

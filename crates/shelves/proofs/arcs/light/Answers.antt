@@ -1,25 +1,24 @@
-use mathlib.Core.Path.{sym, subst}
-use Prim.Native.Nat.{_≤_}
-use Rattle·std.proofs.shelf.Elements.{all-more, all-map}
-use Rattle·std.proofs.shelf.Lists.{take-all}
-use Rattle·std.proofs.shelf.Tests.{leb-true, false≢true}
-use Rattle·std.specs.shelf.Lists.{All}
-use Rattle·algebra.specs.declared.arc.Arc.{Arc}
-use Rattle·algebra.specs.declared.label.Label.{Label}
-use Rattle·shelves·proofs.Elements.{fails, passes, unmapped, not-within}
-use Rattle·shelves·proofs.arcs.light.Needs as need
+use Rattle.std.proofs.Common.{◌≤◌, sym, subst}
+use Rattle.std.proofs.ByRecursion.{All-more, All-map}
+use Rattle.std.proofs.lemmas.List.{take_all}
+use Rattle.std.proofs.lemmas.Bool.{leb-true, false≢true}
+use Rattle.std.specs.List.{AllByRecursion}
+use Rattle.algebra.specs.declared.arc.Arc.{Arc}
+use Rattle.algebra.specs.declared.label.Label.{Label}
+use Rattle.shelves.proofs.Elements.{fails, passes, unmapped, not_within}
+use Rattle.shelves.proofs.arcs.light.Goals as goal
 
-pub loop-arc-again : need.loop-arc-again
-loop-arc-again c =
-    all-more (λ (a : Arc). a .label .cycles ≤ 1073741823) (c .args .arcs .now) (c .loop-arc .arc-index) _ (c .loop-arc-test .taken) (c .loop-arc .inv)
-    (leb-true _ _ (sym (c .if-not-allowed .ensures tt)))
+pub loop-arc-preserved : goal.loop-arc-preserved
+loop-arc-preserved c =
+    All-more (λ (a : Arc). a.label.cycles ≤ 1073741823) c.args.arcs.now c.loop-arc.arc-index _ c.loop-arc-test.true c.loop-arc.invariant
+    (leb-true _ _ (sym c.if-not-allowed.ensures))
 
-pub returns : need.returns
+pub returns : goal.returns
 returns c =
-    passes (all-map (λ (l : Label). l .cycles ≤ 1073741823) (λ (a : Arc). a .label) (c .args .arcs .now)
-    (subst (All (λ (a : Arc). a .label .cycles ≤ 1073741823)) (take-all (c .loop-arc .arc-index) (c .args .arcs .now) (c .loop-arc-test .left)) (c .loop-arc .inv)))
+    passes (All-map (λ (l : Label). l.cycles ≤ 1073741823) (λ (a : Arc). a.label) c.args.arcs.now
+    (subst (AllByRecursion (λ (a : Arc). a.label.cycles ≤ 1073741823)) (take_all c.loop-arc.arc-index c.args.arcs.now c.loop-arc-test.false) c.loop-arc.invariant))
 
-pub returns-then-not-allowed : need.returns-then-not-allowed
+pub returns-then-not-allowed : goal.returns-then-not-allowed
 returns-then-not-allowed c =
-    let no-arc = fails (λ (a : Arc). a .label .cycles ≤ 1073741823) (c .args .arcs .now) (c .loop-arc .arc-index) _ (c .loop-arc-test .taken) (not-within _ _ (sym (c .if-not-allowed .ensures tt))) in
-    (λ e. absurd (false≢true e), λ all. no-arc .1 (unmapped (λ (l : Label). l .cycles ≤ 1073741823) (λ (a : Arc). a .label) (c .args .arcs .now) all))
+    let no_arc = fails (λ (a : Arc). a.label.cycles ≤ 1073741823) c.args.arcs.now c.loop-arc.arc-index _ c.loop-arc-test.true (not_within _ _ (sym c.if-not-allowed.ensures)) in
+    (λ e. absurd (false≢true e), λ all. no_arc.1 (unmapped (λ (l : Label). l.cycles ≤ 1073741823) (λ (a : Arc). a.label) c.args.arcs.now all))

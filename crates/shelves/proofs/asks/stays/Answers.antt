@@ -1,23 +1,18 @@
-use mathlib.Core.Path.{sym, ap, _∙_}
-use Prim.Native.Nat.{ℕ, _+_, _*_}
-use native.Mathlib.Omega.{arith}
-use lib.ListN.{length, getD, take}
-use Rattle·std.proofs.shelf.Lists.{getD-past, getD-take, getD-read, length-take}
-use Rattle·std.specs.declared.option.Option.the-variants.{None}
-use Rattle·std.specs.Options.{isSome}
-use Rattle·shelves·proofs.Present.{present-at}
-use Rattle·shelves·proofs.asks.stays.Needs as need
+use Rattle.std.proofs.Common.{ℕ, ◌+◌, ◌*◌, length, get_or, take, is_some, None, sym, ap, ◌∙◌, arith}
+use Rattle.std.proofs.lemmas.List.{get_or_past, get_or-take, get_or_read, length-take}
+use Rattle.shelves.proofs.Present.{present_at}
+use Rattle.shelves.proofs.asks.stays.Goals as goal
 
-pub returns-then-k-gt15 : need.returns-then-k-gt15
+pub returns-then-k-gt15 : goal.returns-then-k-gt15
 returns-then-k-gt15 g c =
-    present-at (g .V·Algebra .means) (take 2048 (c .args .cells .now)) (128 * c .args .k + 64 + 0)
-    ∙ ap isSome (getD-past (take 2048 (c .args .cells .now)) (128 * c .args .k + 64 + 0) None (simp length-take (omega arith)))
+    present_at g.V.Algebra.means (take 2048 c.args.cells.now) (128 * c.args.k + 64 + 0)
+    ∙ ap is_some (get_or_past (take 2048 c.args.cells.now) (128 * c.args.k + 64 + 0) None (simp length-take (omega arith)))
 
-pub returns : need.returns
+pub returns : goal.returns
 returns g c =
-    let cells = c .args .cells .now in
-    let j = 128 * c .args .k + 64 in
-    present-at (g .V·Algebra .means) (take 2048 cells) (128 * c .args .k + 64 + 0)
-    ∙ ap (λ (i : ℕ). isSome (getD (take 2048 cells) i None)) {y = j} (omega arith)
-    ∙ ap isSome (getD-take 2048 cells j None (omega arith) ∙ sym (getD-read cells j _ (omega arith) (c .index-cells-k .is) None))
-    ∙ c .is-none .ensures
+    let cells = c.args.cells.now in
+    let j = 128 * c.args.k + 64 in
+    present_at g.V.Algebra.means (take 2048 cells) (128 * c.args.k + 64 + 0)
+    ∙ ap (λ (i : ℕ). is_some (get_or (take 2048 cells) i None)) {y = j} (omega arith)
+    ∙ ap is_some (get_or-take 2048 cells j None (omega arith) ∙ sym (get_or_read cells j _ (omega arith) c.index-cells-k.is None))
+    ∙ c.is_none.ensures

@@ -1,33 +1,30 @@
-use mathlib.Core.Path.{sym, ap, subst, _∙_}
-use native.Mathlib.Omega.{arith}
-use lib.ListN.{length, getD, take, drop}
-use Rattle·std.proofs.shelf.Lists.{append-nil}
-use Rattle·std.specs.declared.option.Option.the-variants.{None}
-use Rattle·rows.specs.Pieces.{meanings}
-use Rattle·rows.specs.Unrolled.{Keeps}
-use Rattle·shelves·specs.Effects.{OfShelf, node-row}
-use Rattle·shelves·specs.Tables.{arcs-of}
-use Rattle·shelves·proofs.Unchanged.{others-mean}
-use Rattle·shelves·proofs.building.put_node.Needs as need
+use Rattle.std.proofs.Common.{length, get_or, take, drop, None, sym, ap, ◌∙◌, subst, arith}
+use Rattle.std.proofs.lemmas.List.{append-nil}
+use Rattle.rows.specs.Pieces.{meanings}
+use Rattle.rows.specs.Unrolled.{Keeps}
+use Rattle.shelves.specs.Effects.{OfShelf, node_row}
+use Rattle.shelves.specs.Tables.{arcs_of}
+use Rattle.shelves.proofs.Unchanged.{others_mean}
+use Rattle.shelves.proofs.building.put_node.Goals as goal
 
-pub returns : need.returns
+pub returns : goal.returns
 returns g c =
-    let m = g .V·Algebra .model in
-    let f = g .V·Algebra .means in
-    let core = c .args .core .now in
-    let after = c .settle .last .core in
-    let was = ap (λ r. r .now) (c .replace-cells .ensures .value) in
-    let is = ap (λ r. r .now) (c .settle .ensures .cells) in
+    let m = g.V.Algebra.model in
+    let f = g.V.Algebra.means in
+    let core = c.args.core.now in
+    let after = c.settle.new.core in
+    let was = ap (λ r. r.now) c.replace-cells.ensures.value in
+    let is = ap (λ r. r.now) c.settle.ensures.cells in
     record {
       transient = 1;
       period = 1;
       short = omega arith;
-      keeps = subst (λ xs. Keeps m (node-row m (c .args .label)) (c .args .k) 1 1 (meanings f (take 2048 xs))) (sym is) (c .write-node .ensures .keeps);
-      others = others-mean f (OfShelf (c .args .k)) (core .cells .now) (after .cells .now)
-          (λ j less out. ap (λ xs. getD xs j None) is ∙ c .write-node .ensures .others j less out ∙ ap (λ xs. getD xs j None) was);
-      shelves = c .settle .ensures .shelves;
-      steps = c .settle .ensures .steps;
-      arcs = ap arcs-of (c .settle .ensures .arcs) ∙ sym (append-nil (arcs-of (core .arcs)));
+      keeps = subst (λ xs. Keeps m (node_row m c.args.label) c.args.k 1 1 (meanings f (take 2048 xs))) (sym is) c.write_node.ensures.keeps;
+      others = others_mean f (OfShelf c.args.k) core.cells.now after.cells.now
+          (λ j less out. ap (λ xs. get_or xs j None) is ∙ c.write_node.ensures.others j less out ∙ ap (λ xs. get_or xs j None) was);
+      shelves = c.settle.ensures.shelves;
+      steps = c.settle.ensures.steps;
+      arcs = ap arcs_of c.settle.ensures.arcs ∙ sym (append-nil (arcs_of core.arcs));
       lent = ap length is ∙ omega arith ∙ ap length was;
-      past = ap (meanings f) (ap (drop 4096) is ∙ c .write-node .ensures .past ∙ ap (drop 4096) was);
+      past = ap (meanings f) (ap (drop 4096) is ∙ c.write_node.ensures.past ∙ ap (drop 4096) was);
     }

@@ -1,18 +1,14 @@
-use mathlib.Core.Path.{refl, sym, ap, _∙_}
-use Prim.Native.Nat.{ℕ}
-use native.Mathlib.Omega.{arith}
-use lib.ListN.{set}
-use Rattle·std.proofs.shelf.Lists.{length-take-le}
-use Rattle·std.specs.declared.option.Option.the-variants.{Some}
-use Rattle·shelves·specs.Tables.{shelves-of}
-use Rattle·shelves·proofs.building.settle.Needs as need
+use Rattle.std.proofs.Common.{ℕ, set, Some, sym, refl, ap, ◌∙◌, arith}
+use Rattle.std.proofs.lemmas.List.{length-take-le}
+use Rattle.shelves.specs.Tables.{shelves_of}
+use Rattle.shelves.proofs.building.settle.Goals as goal
 
-pub returns : need.returns
+pub returns : goal.returns
 returns g c =
-    let core = c .args .core .now in
+    let core = c.args.core.now in
     record {
       cells = refl;
-      shelves = c .put .ensures ∙ ap (λ (n : ℕ). set (shelves-of (core .shelves)) (c .args .k) (record { step = Some n; transient = c .args .shape .transient; period = c .args .shape .period })) (sym (length-take-le (core .steps .count) (core .steps .items) (omega arith)));
-      steps = c .push .ensures .items;
+      shelves = c.put.ensures ∙ ap (λ (n : ℕ). set (shelves_of core.shelves) c.args.k (record { step = Some n; transient = c.args.shape.transient; period = c.args.shape.period })) (sym (length-take-le core.steps.count core.steps.items (omega arith)));
+      steps = c.push.ensures.items;
       arcs = refl;
     }

@@ -1,19 +1,19 @@
-use mathlib.Core.Path.{_∙_}
-use Rattle·std.proofs.shelf.Lists.{length-map}
-use Rattle·shelves·specs.Held.{state-of, call-of}
-use Rattle·shelves·specs.Tables.{shelf-of}
-use Rattle·shelves·proofs.Naming.{fills}
-use Rattle·shelves·proofs.changing.change.Needs as need
+use Rattle.std.proofs.Common.{◌∙◌}
+use Rattle.std.proofs.lemmas.List.{length-map}
+use Rattle.shelves.specs.Held.{state_of, call_of}
+use Rattle.shelves.specs.Tables.{shelf_of}
+use Rattle.shelves.proofs.Naming.{fills}
+use Rattle.shelves.proofs.changing.change.Goals as goal
 
-pub returns-in-Accepted : need.returns-in-Accepted
+pub returns-in-Accepted : goal.returns-in-Accepted
 returns-in-Accepted g c =
-    let m = g .V·Algebra .model in
-    let f = g .V·Algebra .means in
-    let before = c .args .core .now in
-    let answers = c .in-Accepted .ensures tt .answers in
-    let many = length-map (before .shelves .items) shelf-of ∙ before .shelves .long in
+    let m = g.V.Algebra.model in
+    let f = g.V.Algebra.means in
+    let before = c.args.core.now in
+    let answers = c.in-Accepted.ensures.answers in
+    let many = length-map before.shelves.items shelf_of ∙ before.shelves.long in
     record {
       answers = answers;
-      fills = fills m (call-of (c .args .call)) (c .in-Accepted .number) (state-of m f before) (state-of m f (c .answer .last .core)) many (answers .does);
-      room = c .in-Accepted .ensures tt .room;
+      fills = fills m (call_of c.args.call) c.in-Accepted.number (state_of m f before) (state_of m f c.answer.new.core) many answers.does;
+      room = c.in-Accepted.ensures.room;
     }

@@ -1,18 +1,17 @@
-use mathlib.Core.Path.{refl, ap, _∙_}
-use native.Mathlib.Omega.{arith}
-use Rattle·std.specs.Options.{mapped}
-use Rattle·rows.proofs.Unrolling.{means-below, means-at}
-use Rattle·shelves·proofs.LeafRows.{fill-others, fill-past, filled-blank}
-use Rattle·shelves·proofs.leaves.blank.Needs as need
+use Rattle.std.proofs.Common.{refl, ap, ◌∙◌, arith}
+use Rattle.std.specs.Option.{option_map}
+use Rattle.rows.proofs.Unrolling.{means_below, means_at}
+use Rattle.shelves.proofs.LeafRows.{fill_others, fill_past, filled_blank}
+use Rattle.shelves.proofs.leaves.blank.Goals as goal
 
-pub returns : need.returns
+pub returns : goal.returns
 returns g c =
-    let cells = c .args .cells .now in
-    let after = c .fill .last .cells in
-    let k = c .args .k in
-    let f = g .V·Algebra .means in
+    let cells = c.args.cells.now in
+    let after = c.fill.new.cells in
+    let k = c.args.k in
+    let f = g.V.Algebra.means in
     record {
-      blank = λ j of. means-below f after 2048 j (omega arith) ∙ means-at f after j ∙ ap (mapped f) (filled-blank cells after k (c .fill .ensures) j of);
-      others = fill-others cells cells after k 0 (c .fill .ensures) (omega arith) refl;
-      past = fill-past cells cells after k 0 (c .fill .ensures) (omega arith) refl;
+      blank = λ j of. means_below f after 2048 j (omega arith) ∙ means_at f after j ∙ ap (option_map f) (filled_blank cells after k c.fill.ensures j of);
+      others = fill_others cells cells after k 0 c.fill.ensures (omega arith) refl;
+      past = fill_past cells cells after k 0 c.fill.ensures (omega arith) refl;
     }

@@ -1,24 +1,24 @@
-use native.Mathlib.Omega.{arith}
-use Rattle·shelves·specs.Promise.{Fresh}
-use Rattle·shelves·proofs.AlgebraLaws.{laws-of}
-use Rattle·shelves·proofs.Histories.{opening}
-use Rattle·shelves·proofs.Unchanged.{blank-mean}
-use Rattle·shelves·proofs.opening.open.Needs as need
+use Rattle.std.proofs.Common.{arith}
+use Rattle.shelves.specs.Promise.{Fresh}
+use Rattle.shelves.proofs.AlgebraLaws.{laws_of}
+use Rattle.shelves.proofs.Histories.{opening}
+use Rattle.shelves.proofs.Unchanged.{blank_mean}
+use Rattle.shelves.proofs.opening.open.Goals as goal
 
-pub returns : need.returns
+pub returns : goal.returns
 returns g c =
-    let m = g .V·Algebra .model in
-    let laws = laws-of (g .world) (g .V·Algebra·met) in
+    let m = g.V.Algebra.model in
+    let laws = laws_of g.world g.met.V.Algebra in
     let fresh : Fresh m _ = record {
-      cells = blank-mean (g .V·Algebra .means) (c .wipe .last .cells) (c .wipe .ensures .blank);
-      shelves = c .new .ensures;
-      steps = c .new-2 .ensures;
-      arcs = c .new-3 .ensures;
+      cells = blank_mean g.V.Algebra.means c.wipe.new.cells c.wipe.ensures.blank;
+      shelves = c.new.ensures;
+      steps = c.new-2.ensures;
+      arcs = c.new-3.ensures;
     } in
     record {
-      blank = c .wipe .ensures .blank;
-      past = c .wipe .ensures .past;
+      blank = c.wipe.ensures.blank;
+      past = c.wipe.ensures.past;
       room = omega arith;
       fresh = fresh;
-      promise = opening m laws (g .V·Algebra·met .chosen) _ fresh;
+      promise = opening m laws g.met.V.Algebra.chosen _ fresh;
     }

@@ -1,28 +1,24 @@
-use mathlib.Core.Logic.{_≢_}
-use mathlib.Core.Path.{_≡_, refl, ap, _∙_}
-use native.Mathlib.Omega.{arith}
-use lib.ListN.{getD, set, drop}
-use Rattle·std.proofs.shelf.Lists.{getD-set-same, getD-set-other, drop-set-lt}
-use Rattle·std.specs.declared.option.Option.the-variants.{None}
-use Rattle·rows.proofs.Ranges.{up-to}
-use Rattle·shelves·proofs.opening.wipe.Needs as need
+use Rattle.std.proofs.Common.{◌≡◌, ◌≢◌, get_or, drop, set, None, refl, ap, ◌∙◌, arith}
+use Rattle.std.proofs.lemmas.List.{get_or-set_same, get_or-set_other, drop-set-lt}
+use Rattle.rows.proofs.Ranges.{up_to}
+use Rattle.shelves.proofs.opening.wipe.Goals as goal
 
-pub loop-k-holds : need.loop-k-holds
-loop-k-holds g c = (λ j low less. absurd (omega arith), refl)
+pub loop-k-init : goal.loop-k-init
+loop-k-init g c = (λ j low less. absurd (omega arith), refl)
 
-pub loop-k-again : need.loop-k-again
-loop-k-again g c =
-    let cells = c .loop-k .cells in
-    let k = c .loop-k .k in
-    let wrote = c .drop-cell .ensures in (
-      up-to (λ j. getD (c .drop-cell .last .cells) j None ≡ None) 0 k
-          (λ j low less. let other : j ≢ k = omega arith in ap (λ xs. getD xs j None) wrote ∙ getD-set-other cells k j None None other ∙ c .loop-k .inv .0 j low less)
-          (ap (λ xs. getD xs k None) wrote ∙ getD-set-same cells k None None (omega arith)),
-      ap (drop 4096) wrote ∙ drop-set-lt 4096 cells k None (omega arith) ∙ c .loop-k .inv .1,
+pub loop-k-preserved : goal.loop-k-preserved
+loop-k-preserved g c =
+    let cells = c.loop-k.cells in
+    let k = c.loop-k.k in
+    let wrote = c.drop_cell.ensures in (
+      up_to (λ j. get_or c.drop_cell.new.cells j None ≡ None) 0 k
+          (λ j low less. let other : j ≢ k = omega arith in ap (λ xs. get_or xs j None) wrote ∙ get_or-set_other cells k j None None other ∙ c.loop-k.invariant.0 j low less)
+          (ap (λ xs. get_or xs k None) wrote ∙ get_or-set_same cells k None None (omega arith)),
+      ap (drop 4096) wrote ∙ drop-set-lt 4096 cells k None (omega arith) ∙ c.loop-k.invariant.1,
     )
 
-pub returns : need.returns
+pub returns : goal.returns
 returns g c = record {
-  blank = λ j less. c .loop-k .inv .0 j (omega arith) (omega arith);
-  past = c .loop-k .inv .1;
+  blank = λ j less. c.loop-k.invariant.0 j (omega arith) (omega arith);
+  past = c.loop-k.invariant.1;
 }

@@ -1,9 +1,9 @@
-use Rattle·shelves·proofs.AlgebraLaws.{laws-of}
-use Rattle·shelves·proofs.Histories.{opening, answers}
-use Rattle·shelves·proofs.promise.promise_stands.Needs as need
+use Rattle.shelves.proofs.AlgebraLaws.{laws_of}
+use Rattle.shelves.proofs.Histories.{opening, answers}
+use Rattle.shelves.proofs.promise.promise_stands.Goals as goal
 
-pub returns : need.returns
+pub returns : goal.returns
 returns g c =
-    let laws = laws-of (g .world) (g .V·Algebra·met) in
-    let chosen = g .V·Algebra·met .chosen in
-    record { opening = opening _ laws chosen; calls = λ call reply s s′ does. answers _ laws chosen does }
+    let laws = laws_of g.world g.met.V.Algebra in
+    let chosen = g.met.V.Algebra.chosen in
+    record { opening = opening _ laws chosen; calls = λ call reply s s' does. answers _ laws chosen does }

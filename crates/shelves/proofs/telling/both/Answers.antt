@@ -1,9 +1,9 @@
-use Rattle·rows.specs.Pieces.{rows-of, meanings}
-use Rattle·shelves·proofs.Reaching.{both-at}
-use Rattle·shelves·proofs.telling.both.Needs as need
+use Rattle.rows.specs.Pieces.{rows_of, meanings}
+use Rattle.shelves.proofs.Reaching.{both_at}
+use Rattle.shelves.proofs.telling.both.Goals as goal
 
-pub returns : need.returns
+pub returns : goal.returns
 returns g c =
-    let m = g .V·Algebra .model in
-    let rows = rows-of m (meanings (g .V·Algebra .means) (c .args .cells .now)) (c .args .piece .now) in
-    both-at m rows (c .args .k) (c .pre .phase) _ _ _ (c .join .ensures) (c .at .ensures) (c .at-2 .ensures)
+    let m = g.V.Algebra.model in
+    let rows = rows_of m (meanings g.V.Algebra.means c.args.cells.now) c.args.piece.now in
+    both_at m rows c.args.k c.requires.phase _ _ _ c.join.ensures c.at.ensures c.at-2.ensures

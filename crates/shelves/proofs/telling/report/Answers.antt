@@ -1,6 +1,6 @@
-use native.Mathlib.Omega.{arith}
-use Rattle·std.proofs.shelf.Lists.{length-take}
-use Rattle·shelves·proofs.telling.report.Needs as need
+use Rattle.std.proofs.Common.{arith}
+use Rattle.std.proofs.lemmas.List.{length-take}
+use Rattle.shelves.proofs.telling.report.Goals as goal
 
-pub figure-figure-requires : need.figure-figure-requires
-figure-figure-requires g c κs = simp length-take (omega arith)
+pub figure-figure-requires : goal.figure-figure-requires
+figure-figure-requires g c = simp length-take (omega arith)

@@ -1,5 +1,5 @@
-use Rattle·algebra·proofs.Held.{decides-same}
-use Rattle·algebra·proofs.best.BestAlgebra.equal.Needs as need
+use Rattle.algebra.specs.HeldLemmas.{decides_same}
+use Rattle.algebra.proofs.best.BestAlgebra.equal.Goals as goal
 
-pub returns : need.returns
-returns c = decides-same _ _
+pub returns : goal.returns
+returns c = decides_same _ _

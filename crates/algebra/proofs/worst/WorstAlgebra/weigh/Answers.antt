@@ -1,6 +1,6 @@
-use borrow.Author.Needs.{needs}
-use Rattle·algebra·proofs.Held.{same-amount}
-use Rattle·algebra·proofs.worst.WorstAlgebra.weigh.Needs as need
+use Rattle.std.proofs.Common.{rules}
+use Rattle.algebra.specs.HeldLemmas.{same_amount}
+use Rattle.algebra.proofs.worst.WorstAlgebra.weigh.Goals as goal
 
-pub returns : need.returns
-returns c = same-amount (search needs)
+pub returns : goal.returns
+returns c = same_amount (search rules)

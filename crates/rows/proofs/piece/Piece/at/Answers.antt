@@ -1,17 +1,16 @@
-use mathlib.Core.Path.{ap, sym, _∙_}
-use native.Mathlib.Omega.{arith}
-use Rattle·rows·specs.Pieces.{rows-of, meanings, row}
-use Rattle·rows·proofs.Cells.{read-means}
-use Rattle·rows·proofs.piece.Piece.at.Needs as need
+use Rattle.std.proofs.Common.{sym, ap, ◌∙◌, arith}
+use Rattle.rows.specs.Pieces.{rows_of, meanings, row}
+use Rattle.rows.proofs.Cells.{read_means}
+use Rattle.rows.proofs.piece.Piece.at.Goals as goal
 
-pub returns-in-Pause : need.returns-in-Pause
+pub returns-in-Pause : goal.returns-in-Pause
 returns-in-Pause g c =
-    let rows = rows-of (g .V·Algebra .model) (meanings (g .V·Algebra .means) (c .args .cells .now)) (c .args .self .now) in
-    read-means (g .V·Algebra .means) (c .args .cells .now) _ _ (c .index-cells-self .is) (omega arith)
-    ∙ sym (ap (λ which. row rows which (c .args .k)) (c .in-Pause .is))
+    let rows = rows_of g.V.Algebra.model (meanings g.V.Algebra.means c.args.cells.now) c.args.self.now in
+    read_means g.V.Algebra.means c.args.cells.now _ _ c.index-cells-self.is (omega arith)
+    ∙ sym (ap (λ which. row rows which c.args.k) c.in-Pause.is)
 
-pub returns-in-Exit : need.returns-in-Exit
+pub returns-in-Exit : goal.returns-in-Exit
 returns-in-Exit g c =
-    let rows = rows-of (g .V·Algebra .model) (meanings (g .V·Algebra .means) (c .args .cells .now)) (c .args .self .now) in
-    read-means (g .V·Algebra .means) (c .args .cells .now) _ _ (c .index-cells-self-in-Exit .is) (omega arith)
-    ∙ sym (ap (λ which. row rows which (c .args .k)) (c .in-Exit .is))
+    let rows = rows_of g.V.Algebra.model (meanings g.V.Algebra.means c.args.cells.now) c.args.self.now in
+    read_means g.V.Algebra.means c.args.cells.now _ _ c.index-cells-self-in-Exit.is (omega arith)
+    ∙ sym (ap (λ which. row rows which c.args.k) c.in-Exit.is)

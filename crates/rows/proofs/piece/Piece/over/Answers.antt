@@ -1,22 +1,22 @@
-use mathlib.Core.Path.{ap, sym, _∙_}
-use Rattle·std.specs.Options.{mapped}
-use Rattle·algebra.specs.Coefficients.{join}
-use Rattle·rows·specs.Pieces.{rows-of, meanings, row}
-use Rattle·rows·specs.Sets.{has, joins}
-use Rattle·rows·proofs.Walks.{joins-more, joins-past}
-use Rattle·rows·proofs.piece.Piece.over.Needs as need
-use Rattle·rows·proofs.piece.Piece.over.Needs.{then-has, else-has}
+use Rattle.std.proofs.Common.{sym, ap, ◌∙◌}
+use Rattle.std.specs.Option.{option_map}
+use Rattle.algebra.specs.Coefficients.{join}
+use Rattle.rows.specs.Pieces.{rows_of, meanings, row}
+use Rattle.rows.specs.Sets.{has, joins}
+use Rattle.rows.proofs.Walks.{joins_more, joins_past}
+use Rattle.rows.proofs.piece.Piece.over.Goals as goal
+use Rattle.rows.proofs.piece.Piece.over.Goals.{then-has, else-has}
 
-pub loop-k-again : need.loop-k-again
-loop-k-again g c =
-    let m = g .V·Algebra .model in
-    let f = g .V·Algebra .means in
-    let r = row (rows-of m (meanings f (c .args .cells .now)) (c .args .self .now)) (c .args .row) in
-    let k = c .loop-k .k in
-    elim (c .if-has .came) [
+pub loop-k-preserved : goal.loop-k-preserved
+loop-k-preserved g c =
+    let m = g.V.Algebra.model in
+    let f = g.V.Algebra.means in
+    let r = row (rows_of m (meanings f c.args.cells.now) c.args.self.now) c.args.row in
+    let k = c.loop-k.k in
+    elim c.if-has.branch [
       | then-has w ↦
-          let more = joins-more m (has (c .args .set)) r k (sym (w .if-has .ensures tt)) in
-          ap (mapped f) (w .all-is) ∙ (cc) ∙ sym more
+          let more = joins_more m (has c.args.set) r k (sym w.if-has.ensures) in
+          ap (option_map f) w.all-is ∙ (cc) ∙ sym more
       | else-has w ↦
-          ap (mapped f) (w .all-is) ∙ c .loop-k .inv ∙ sym (joins-past m (has (c .args .set)) r k (sym (w .if-has .ensures tt)))
+          ap (option_map f) w.all-is ∙ c.loop-k.invariant ∙ sym (joins_past m (has c.args.set) r k (sym w.if-has.ensures))
     ]

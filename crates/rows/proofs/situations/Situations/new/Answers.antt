@@ -1,7 +1,13 @@
-use mathlib.Core.Path.{refl}
-use native.Mathlib.Omega.{arith}
-use Rattle·std.proofs.shelf.Lists.{getD-replicate}
-use Rattle·rows·proofs.situations.Situations.new.Needs as need
+use Rattle.std.proofs.Common.{refl, arith}
+use Rattle.std.proofs.lemmas.List.{get_or-replicate}
+use Rattle.rows.proofs.situations.Situations.new.Goals as goal
 
-pub ghost-result : need.ghost-result
-ghost-result c = (omega arith, (refl, (refl, (refl, (λ h less. getD-replicate 256 h 0 0 less, (λ i less. absurd (omega arith), tt))))))
+pub invariant_of-result : goal.invariant_of-result
+invariant_of-result c = record {
+  room = omega arith;
+  items_long = refl;
+  heads_long = refl;
+  links_long = refl;
+  headed = λ h less. get_or-replicate 256 h 0 0 less;
+  linked = λ i less. absurd (omega arith);
+}

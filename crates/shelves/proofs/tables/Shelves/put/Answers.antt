@@ -1,6 +1,6 @@
-use Rattle·std.proofs.shelf.Lists.{map-set}
-use Rattle·shelves·specs.Tables.{shelf-of}
-use Rattle·shelves·proofs.tables.Shelves.put.Needs as need
+use Rattle.std.proofs.lemmas.List.{map-set}
+use Rattle.shelves.specs.Tables.{shelf_of}
+use Rattle.shelves.proofs.tables.Shelves.put.Goals as goal
 
-pub returns : need.returns
-returns c = map-set shelf-of (c .args .self .now .items) (c .args .k) (c .args .shelf)
+pub returns : goal.returns
+returns c = map-set shelf_of c.args.self.now.items c.args.k c.args.shelf

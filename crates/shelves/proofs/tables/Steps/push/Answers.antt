@@ -1,9 +1,8 @@
-use mathlib.Core.Path.{refl}
-use native.Mathlib.Omega.{arith}
-use Rattle·std.proofs.shelf.Lists.{take-more-set}
-use Rattle·shelves·proofs.tables.Steps.push.Needs as need
+use Rattle.std.proofs.Common.{refl, arith}
+use Rattle.std.proofs.lemmas.List.{take_more_set}
+use Rattle.shelves.proofs.tables.Steps.push.Goals as goal
 
-pub returns : need.returns
+pub returns : goal.returns
 returns c =
-    let table = c .args .self .now in
-    record { items = take-more-set (table .items) (table .count) (c .args .step) (omega arith); count = refl }
+    let table = c.args.self.now in
+    record { items = take_more_set table.items table.count c.args.step (omega arith); count = refl }
