@@ -34,13 +34,11 @@ pub fn list(heap: Global, bytes: &[u8]) -> Result<Listing, AllocError>
                 records.push(record)?;
                 left = rest;
             }
-            Err(fault) => match fault {
-                Fault::Refused(why) => {
-                    let refusal = Some(why);
-                    return Ok(Listing { records, refusal });
-                }
-                Fault::Memory => return Err(AllocError),
-            },
+            Err(Fault::Refused(why)) => {
+                let refusal = Some(why);
+                return Ok(Listing { records, refusal });
+            }
+            Err(Fault::Memory) => return Err(AllocError),
         }
     }
     let refusal = None;

@@ -67,7 +67,7 @@ pub fn read(heap: Global, bytes: &[u8]) -> Result<(Record, &[u8]), Fault>
         return Err(Fault::Refused(Refusal::Cut));
     }
     let (body, rest) = rest.split_at(length - 4);
-    let kind = Kind::of(u16::from_le_bytes([*k0, *k1])).ok_or(Refusal::Unknown)?;
+    let kind = Kind::try_from(u16::from_le_bytes([*k0, *k1]))?;
     let record = record(heap, kind, body)?;
     Ok((record, rest))
 }
