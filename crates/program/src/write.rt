@@ -54,34 +54,20 @@ fn put_table(out: &mut Vec<u8>, shelf: u8, arcs: &[Arc]) -> Result<(), AllocErro
     Ok(())
 }
 
-fn put_shelves(out: &mut Vec<u8>, first: u8, second: u8) -> Result<(), AllocError>
-    ensures { OnOk result ((first < 256) × (second < 256) × (out.new.items ≡ out.old.items ++ (first ∷ second ∷ []))) }
-{
-    out.extend_from_slice(&[first, second])?;
-    Ok(())
-}
-
-fn put_shelf(out: &mut Vec<u8>, shelf: u8) -> Result<(), AllocError>
-    ensures { OnOk result ((shelf < 256) × (out.new.items ≡ out.old.items ++ (shelf ∷ []))) }
-{
-    out.push(shelf)?;
-    Ok(())
-}
-
 fn put_body(out: &mut Vec<u8>, written: &Record) -> Result<(), AllocError>
     requires { long (entry written.now) < 65536 }
     ensures { OnOk result (FitsBody (entry written.now) × (out.new.items ≡ out.old.items ++ body_of (entry written.now))) }
 {
     match written {
-        Record::Node { shelf, label } => put_step(out, *shelf, *label),
-        Record::Pause { shelf, label } => put_step(out, *shelf, *label),
+        Record::Node { shelf, label } | Record::Pause { shelf, label } => put_step(
+            out, *shelf, *label,
+        ),
         Record::Table { shelf, arcs } => put_table(out, *shelf, arcs.as_slice()),
-        Record::Choice { first, second } => put_shelves(out, *first, *second),
-        Record::Sequence { first, second } => put_shelves(out, *first, *second),
-        Record::Loop { shelf } => put_shelf(out, *shelf),
-        Record::Fork { first, second } => put_shelves(out, *first, *second),
-        Record::Abort { first, second } => put_shelves(out, *first, *second),
-        Record::Clear { shelf } => put_shelf(out, *shelf),
+        Record::Choice { first, second }
+        | Record::Sequence { first, second }
+        | Record::Fork { first, second }
+        | Record::Abort { first, second } => out.extend_from_slice(&[*first, *second]),
+        Record::Loop { shelf } | Record::Clear { shelf } => out.extend_from_slice(&[*shelf]),
     }
 }
 
