@@ -1,5 +1,6 @@
 -- One turn of adding up labels: what is left gives the sum.
-use Rattle.std.proofs.Common.{◌≡◌, ℕ, ◌+◌, ◌<◌, min, List, [], ◌∷◌, ◌++◌, map, length, get_or, drop, sym, refl, ap, ◌∙◌, arith, length-append}
+use Rattle.std.proofs.Common.{◌≡◌, ℕ, ◌+◌, ◌<◌, ◌≤◌, min, List, [], ◌∷◌, ◌++◌, map, length, get_or, drop, sym, refl, ap, ◌∙◌, arith, length-append}
+use Rattle.std.specs.Prelude.{fold}
 use Rattle.std.proofs.lemmas.List.{at_drop_more}
 use Rattle.algebra.specs.declared.arc.Arc.{Arc}
 use Rattle.algebra.specs.declared.label.Label.{Label}
@@ -31,7 +32,9 @@ module _ (m : Model) where
       ∙ sym (added_append x (labels (entry r)) (all_labels (drop (i + 1) rs)))
       ∙ ap (added m x) (sym (labels_more rs i r h is))
 
-pub count_next : (x y top : ℕ) (rs : List Record) (i : ℕ) (r : Record) → i < length rs → r ≡ get_or rs i r → y ≡ min (x + length (labels (entry r))) top → min (y + length (all_labels (drop (i + 1) rs))) top ≡ min (x + length (all_labels (drop i rs))) top
-count_next x y top rs i r h is p =
-    let more = ap length (labels_more rs i r h is) ∙ length-append (labels (entry r)) (all_labels (drop (i + 1) rs)) in
-    omega arith
+-- numbers of labels added up and held at the top
+pub counted : (x top : ℕ) → x ≤ top → (rs : List Record) → fold (λ (a n : ℕ). min (a + n) top) x (map (λ (r : Record). length (labels (entry r))) rs) ≡ min (x + length (all_labels rs)) top
+counted x top h [] = omega (arith, h)
+counted x top h (r ∷ rs) =
+    counted (min (x + length (labels (entry r))) top) top (omega arith) rs
+    ∙ omega (arith, length-append (labels (entry r)) (all_labels rs))

@@ -59,9 +59,9 @@ fn put_body(out: &mut Vec<u8>, written: &Record) -> Result<(), AllocError>
     ensures { OnOk result (FitsBody (entry written.now) × (out.new.items ≡ out.old.items ++ body_of (entry written.now))) }
 {
     match written {
-        Record::Node { shelf, label } | Record::Pause { shelf, label } => put_step(
-            out, *shelf, *label,
-        ),
+        Record::Node { shelf, label } | Record::Pause { shelf, label } => {
+            put_step(out, *shelf, *label)
+        }
         Record::Table { shelf, arcs } => put_table(out, *shelf, arcs.as_slice()),
         Record::Choice { first, second }
         | Record::Sequence { first, second }
