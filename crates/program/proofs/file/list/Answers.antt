@@ -4,11 +4,8 @@ use Rattle.std.proofs.lemmas.List.{nil_from_length}
 use Rattle.program.specs.declared.fault.Fault.{Fault}
 use Rattle.program.specs.declared.record.Record.{Record}
 use Rattle.program.specs.Format.{Stops}
-use Rattle.program.proofs.Turns.{Sofar, one_more, done, refuse, shorter}
+use Rattle.program.proofs.Turns.{Sofar, one_more, done, refuse}
 use Rattle.program.proofs.file.list.Goals as goal
-
-pub loop-left-smaller : goal.loop-left-smaller
-loop-left-smaller c = shorter _ _ _ c.in-Ok.ensures
 
 pub loop-left-preserved : goal.loop-left-preserved
 loop-left-preserved c =
