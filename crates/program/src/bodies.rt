@@ -1,6 +1,6 @@
 // What stands after a record's length and kind, read from the whole of its bytes.
 ghost use Rattle.std.specs.Prelude.{◌≡◌, ◌<◌, ◌∷◌, ◌++◌, length, map, All, IfOk, MatchResult, ◌≢◌};
-ghost use Rattle.std.specs.List.{flat_map, AllByRecursion};
+ghost use Rattle.std.specs.List.{flat_map};
 ghost use Rattle.program.specs.declared.kind.Kind.TheVariants.{Table as TableKind};
 ghost use Rattle.program.specs.declared.refusal.Refusal.TheVariants.{Misfit};
 ghost use Rattle.program.specs.Format.{FitsLabel, FitsArc, two, label_bytes, arc_bytes};
@@ -55,7 +55,7 @@ fn arcs(heap: Global, chunks: &[[u8; 10]]) -> Result<Vec<Arc>, AllocError>
 
 // A shelf and its arcs: the count of arcs, and as many.
 pub fn table(heap: Global, body: &[u8]) -> Result<(u8, Vec<Arc>), Fault>
-    ensures { MatchResult result (λ t. (t.0 < 256) × AllByRecursion FitsArc t.1.items × (body.now ≡ t.0 ∷ two (length t.1.items) ++ flat_map arc_bytes t.1.items)) (λ e. Misfits e TableKind body.now) }
+    ensures { MatchResult result (λ t. (t.0 < 256) × All FitsArc t.1.items × (body.now ≡ t.0 ∷ two (length t.1.items) ++ flat_map arc_bytes t.1.items)) (λ e. Misfits e TableKind body.now) }
 {
     let [shelf, n0, n1, rest @ ..] = body else {
         return Err(Fault::Refused(Refusal::Misfit));

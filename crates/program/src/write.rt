@@ -1,6 +1,6 @@
 // Writes one record.
-ghost use Rattle.std.specs.Prelude.{◌≡◌, ◌<◌, [], ◌∷◌, ◌++◌, length, MatchResult, OnOk};
-ghost use Rattle.std.specs.List.{flat_map, AllByRecursion};
+ghost use Rattle.std.specs.Prelude.{◌≡◌, ◌<◌, [], ◌∷◌, ◌++◌, length, MatchResult, OnOk, All};
+ghost use Rattle.std.specs.List.{flat_map};
 ghost use Rattle.program.specs.Entries.{entry};
 ghost use Rattle.program.specs.Format.{two, label_bytes, arc_bytes, FitsLabel, FitsArc, FitsBody, Fits, Resists, long, body as body_of, bytes};
 
@@ -27,7 +27,7 @@ fn put_arc(out: &mut Vec<u8>, arc: Arc) -> Result<(), AllocError>
 }
 
 fn put_arcs(out: &mut Vec<u8>, arcs: &[Arc]) -> Result<(), AllocError>
-    ensures { OnOk result (AllByRecursion FitsArc arcs.now × (out.new.items ≡ out.old.items ++ flat_map arc_bytes arcs.now)) }
+    ensures { OnOk result (All FitsArc arcs.now × (out.new.items ≡ out.old.items ++ flat_map arc_bytes arcs.now)) }
 {
     for arc in arcs {
         put_arc(out, *arc)?;
@@ -45,7 +45,7 @@ fn put_step(out: &mut Vec<u8>, shelf: u8, label: Label) -> Result<(), AllocError
 
 fn put_table(out: &mut Vec<u8>, shelf: u8, arcs: &[Arc]) -> Result<(), AllocError>
     requires { length arcs.now < 65536 }
-    ensures { OnOk result ((shelf < 256) × AllByRecursion FitsArc arcs.now × (out.new.items ≡ out.old.items ++ (shelf ∷ two (length arcs.now) ++ flat_map arc_bytes arcs.now))) }
+    ensures { OnOk result ((shelf < 256) × All FitsArc arcs.now × (out.new.items ≡ out.old.items ++ (shelf ∷ two (length arcs.now) ++ flat_map arc_bytes arcs.now))) }
 {
     let count = arcs.len() as u16;
     out.push(shelf)?;
