@@ -1,8 +1,10 @@
 -- The entry and the rest are functions of the bytes that spell them.
 use Rattle.std.proofs.Common.{◌≡◌, ℕ, zero, suc, ◌+◌, ◌-◌, ◌*◌, ◌/◌, ◌%◌, ◌^◌, ◌<◌, List, [], ◌∷◌, ◌++◌, length, get_or, drop, sym, refl, ap, ◌∙◌, mod-eq_of_lt, div-add-mod', arith}
 use native.Mathlib.Nat.{div-div-eq-div-mul}
-use Rattle.std.specs.List.{flat_map, AllByRecursion}
+use Rattle.std.specs.Prelude.{All}
+use Rattle.std.specs.List.{flat_map}
 use Rattle.std.proofs.lemmas.List.{drop_at}
+use Rattle.std.proofs.lemmas.List.Elements.{All-head, All-tail}
 use Rattle.algebra.specs.declared.arc.Arc.{Arc}
 use Rattle.algebra.specs.declared.label.Label.{Label}
 use Rattle.program.specs.declared.kind.Kind.{Kind}
@@ -79,10 +81,12 @@ label_back : (l : Label) (rest : List ℕ) → FitsLabel l → label_at 0 (label
 unfolding label_at
 label_back l rest (c, p) = λ i. record { cycles = four_back l.cycles c i; ports = four_back l.ports p i }
 
-arcs_back : (arcs : List Arc) (rest : List ℕ) → AllByRecursion FitsArc arcs → arcs_at (length arcs) (flat_map arc_bytes arcs ++ rest) ≡ arcs
+arcs_back : (arcs : List Arc) (rest : List ℕ) → All FitsArc arcs → arcs_at (length arcs) (flat_map arc_bytes arcs ++ rest) ≡ arcs
 unfolding arcs_at label_at
 arcs_back [] rest fit = refl
-arcs_back (a ∷ arcs) rest ((f, t, l), fit) = λ i. record { from = a.from; to = a.to; label = label_back a.label (flat_map arc_bytes arcs ++ rest) l i } ∷ arcs_back arcs rest fit i
+arcs_back (a ∷ arcs) rest fit =
+    let (f, t, l) = All-head FitsArc a arcs fit in
+    λ i. record { from = a.from; to = a.to; label = label_back a.label (flat_map arc_bytes arcs ++ rest) l i } ∷ arcs_back arcs rest (All-tail FitsArc a arcs fit) i
 
 entry_back : (e : Entry) (rest : List ℕ) → Fits e → entry_at (kind e) (body e ++ rest) ≡ e
 unfolding entry_at label_at

@@ -1,14 +1,9 @@
 -- A record's bytes from its length, its kind and its body.
-use Rattle.std.proofs.Common.{◌≡◌, ℕ, ◌+◌, ◌*◌, ◌<◌, ◌≤◌, List, ◌++◌, length, get_or, drop, sym, refl, ap, ◌∙◌, subst, arith, length-append, length-drop}
-use Rattle.std.proofs.lemmas.List.{get_or-drop, get_or_append_left}
-use Rattle.program.specs.declared.fault.Fault.{Fault}
-use Rattle.program.specs.declared.fault.Fault.TheVariants.{Refused, Memory}
+use Rattle.std.proofs.Common.{◌≡◌, ℕ, ◌+◌, ◌<◌, ◌≤◌, List, ◌++◌, length, get_or, drop, sym, refl, ap, ◌∙◌, arith}
 use Rattle.program.specs.declared.kind.Kind.{Kind}
-use Rattle.program.specs.declared.kind.Kind.TheVariants.{Node, Pause, Table, Choice, Sequence, Loop, Fork, Abort, Clear}
-use Rattle.program.specs.Kinds.{number, due}
+use Rattle.program.specs.Kinds.{number}
 use Rattle.program.specs.Entries.{Entry, node, pause, table, choice, sequence, repeat, fork, abort, clear}
-use Rattle.program.specs.Format.{two, kind, long, body, FitsBody, Framed, Spells, Refuses, Stops, length_in, kind_in, count_in}
-use Rattle.program.specs.Bodies.{Misfits}
+use Rattle.program.specs.Format.{two, kind, long, body, FitsBody, Spells, length_in, kind_in}
 use Rattle.program.proofs.Arcs.{length_arcs}
 use Rattle.program.proofs.Numbers.{begins, two_spelled}
 
@@ -31,11 +26,6 @@ pub record Parted (all bs rest : List ℕ) : Type 0 where
   pub long_is : length_in all ≡ 4 + length bs
 
 module _ {all bs rest : List ℕ} (parts : Parted all bs rest) where
-  framed : Framed all
-  framed =
-      let size = sym (length-drop 4 all) ∙ ap length parts.split ∙ length-append bs rest in
-      (parts.room, omega (arith, parts.long_is), omega (arith, parts.long_is))
-
   pub spelled : ((i : ℕ) → get_or all i 0 < 256) → (e : Entry) (k : Kind) → kind_in all ≡ number k → kind e ≡ k → FitsBody e → bs ≡ body e → Spells all e rest
   spelled byte e k known same fits is =
       let due_is : length_in all ≡ long e = parts.long_is ∙ ap (λ (l : List ℕ). 4 + length l) is ∙ length_body e in
@@ -43,26 +33,3 @@ module _ {all bs rest : List ℕ} (parts : Parted all bs rest) where
       let second = ap two (ap number same ∙ sym known) ∙ two_spelled _ _ (byte 2) (byte 3) in
       let tail = parts.split ∙ ap (λ (l : List ℕ). l ++ rest) is in
       ((omega (arith, due_is, byte 0, byte 1), fits), begins 4 all parts.room ∙ sym (λ i. first i ++ (second i ++ sym tail i)))
-
-  -- the bytes of the count are those of the body, where it has them
-  count_same : 3 ≤ length bs → count_in all ≡ get_or bs 1 0 + get_or bs 2 0 * 256
-  count_same three =
-      let one : (i : ℕ) → i < 3 → get_or all (4 + i) 0 ≡ get_or bs i 0 = λ i h. sym (get_or-drop 4 all i 0) ∙ ap (λ (l : List ℕ). get_or l i 0) parts.split ∙ get_or_append_left bs rest 0 i (omega arith) in
-      omega (arith, one 1 (omega arith), one 2 (omega arith))
-
-  misfit : (k : Kind) → (4 + length bs ≡ due k (get_or bs 1 0 + get_or bs 2 0 * 256) → ⊥) → length_in all ≡ due k (count_in all) → ⊥
-  misfit Node wrong is = wrong (sym parts.long_is ∙ is)
-  misfit Pause wrong is = wrong (sym parts.long_is ∙ is)
-  misfit Table wrong is =
-      let three : 3 ≤ length bs = omega (arith, parts.long_is) in
-      wrong (omega (arith, parts.long_is, count_same three))
-  misfit Choice wrong is = wrong (sym parts.long_is ∙ is)
-  misfit Sequence wrong is = wrong (sym parts.long_is ∙ is)
-  misfit Loop wrong is = wrong (sym parts.long_is ∙ is)
-  misfit Fork wrong is = wrong (sym parts.long_is ∙ is)
-  misfit Abort wrong is = wrong (sym parts.long_is ∙ is)
-  misfit Clear wrong is = wrong (sym parts.long_is ∙ is)
-
-  pub stops : (e : Fault) (k : Kind) → kind_in all ≡ number k → Misfits e k bs → Stops e all
-  stops (Refused why) k known (is, wrong) = subst (λ w. Refuses w all) (sym is) (framed, (k, known, misfit k wrong))
-  stops Memory k known m = tt

@@ -2,7 +2,6 @@ pub mod Numbers
 pub mod Arcs
 pub mod Framing
 pub mod Turns
-pub mod Appends
 pub mod Decoding
 pub mod Readings
 pub mod Sums

@@ -1,6 +1,8 @@
 -- Bytes have one reading, and reading and writing undo each other.
 use Rattle.std.proofs.Common.{◌≡◌, ℕ, List, [], ◌∷◌, ◌++◌, length, Some, None, Option, sym, refl, ap, ◌∙◌, subst, arith, length-append}
-use Rattle.std.specs.List.{flat_map, AllByRecursion}
+use Rattle.std.specs.Prelude.{All}
+use Rattle.std.specs.List.{flat_map}
+use Rattle.std.proofs.lemmas.List.Elements.{All-head, All-tail}
 use Rattle.program.specs.declared.refusal.Refusal.{Refusal}
 use Rattle.program.specs.declared.refusal.Refusal.TheVariants.{Large, Cut, Unknown, Misfit}
 use Rattle.program.specs.Kinds.{due}
@@ -72,9 +74,9 @@ one_listing (next {bs = bs} {rest = rest} {e = e} is l) (next {rest = left} {e =
     let others = one_listing l (subst (λ (x : List ℕ). Listed x fs other) (sym first.1) m) in
     (λ i. first.0 i ∷ others.0 i, others.1)
 
-written_back : (es : List Entry) → AllByRecursion Fits es → Listed (flat_map bytes es) es None
+written_back : (es : List Entry) → All Fits es → Listed (flat_map bytes es) es None
 written_back [] fit = ended
-written_back (e ∷ es) (fits, fit) = next (fits, refl) (written_back es fit)
+written_back (e ∷ es) fit = next (All-head Fits e es fit, refl) (written_back es (All-tail Fits e es fit))
 
 read_again : {bs : List ℕ} {es : List Entry} → Listed bs es None → bs ≡ flat_map bytes es
 read_again ended = refl

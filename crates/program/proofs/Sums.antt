@@ -1,15 +1,12 @@
 -- One turn of adding up labels: what is left gives the sum.
-use Rattle.std.proofs.Common.{◌≡◌, ℕ, ◌+◌, ◌<◌, min, List, [], ◌∷◌, ◌++◌, map, length, get_or, drop, sym, refl, ap, ◌∙◌, arith, length-append}
+use Rattle.std.proofs.Common.{◌≡◌, ℕ, ◌+◌, ◌<◌, ◌≤◌, min, List, [], ◌∷◌, ◌++◌, map, length, get_or, drop, sym, refl, ap, ◌∙◌, arith, length-append}
+use Rattle.std.specs.Prelude.{fold}
 use Rattle.std.proofs.lemmas.List.{at_drop_more}
-use Rattle.algebra.specs.declared.arc.Arc.{Arc}
 use Rattle.algebra.specs.declared.label.Label.{Label}
 use Rattle.algebra.specs.Model.{Model}
 use Rattle.program.specs.declared.record.Record.{Record}
 use Rattle.program.specs.Entries.{entry}
 use Rattle.program.specs.Weights.{labels, all_labels, added}
-
-abbrev pub arc_labels : List Arc → List Label
-arc_labels arcs = map (λ a. a.label) arcs
 
 -- the labels left at a record are its own and those of the records after it
 labels_more : (rs : List Record) (i : ℕ) (r : Record) → i < length rs → r ≡ get_or rs i r → all_labels (drop i rs) ≡ labels (entry r) ++ all_labels (drop (i + 1) rs)
@@ -20,18 +17,15 @@ module _ (m : Model) where
   added_append x [] ks = refl
   added_append x (l ∷ ls) ks = added_append (m.add x (m.weigh l)) ls ks
 
-  pub arcs_next : (x y w : m.Carrier) (arcs : List Arc) (i : ℕ) (d : Arc) → i < length arcs → y ≡ m.add x w → w ≡ m.weigh (get_or arcs i d).label → added m y (arc_labels (drop (i + 1) arcs)) ≡ added m x (arc_labels (drop i arcs))
-  arcs_next x y w arcs i d h p q =
-      ap (λ (z : m.Carrier). added m z (arc_labels (drop (i + 1) arcs))) (p ∙ ap (m.add x) q)
-      ∙ sym (at_drop_more (λ (l : List Arc). added m x (arc_labels l)) arcs i d h)
-
   pub records_next : (x y : m.Carrier) (rs : List Record) (i : ℕ) (r : Record) → i < length rs → r ≡ get_or rs i r → y ≡ added m x (labels (entry r)) → added m y (all_labels (drop (i + 1) rs)) ≡ added m x (all_labels (drop i rs))
   records_next x y rs i r h is p =
       ap (λ (z : m.Carrier). added m z (all_labels (drop (i + 1) rs))) p
       ∙ sym (added_append x (labels (entry r)) (all_labels (drop (i + 1) rs)))
       ∙ ap (added m x) (sym (labels_more rs i r h is))
 
-pub count_next : (x y top : ℕ) (rs : List Record) (i : ℕ) (r : Record) → i < length rs → r ≡ get_or rs i r → y ≡ min (x + length (labels (entry r))) top → min (y + length (all_labels (drop (i + 1) rs))) top ≡ min (x + length (all_labels (drop i rs))) top
-count_next x y top rs i r h is p =
-    let more = ap length (labels_more rs i r h is) ∙ length-append (labels (entry r)) (all_labels (drop (i + 1) rs)) in
-    omega arith
+-- numbers of labels added up and held at the top
+pub counted : (x top : ℕ) → x ≤ top → (rs : List Record) → fold (λ (a n : ℕ). min (a + n) top) x (map (λ (r : Record). length (labels (entry r))) rs) ≡ min (x + length (all_labels rs)) top
+counted x top h [] = omega (arith, h)
+counted x top h (r ∷ rs) =
+    counted (min (x + length (labels (entry r))) top) top (omega arith) rs
+    ∙ omega (arith, length-append (labels (entry r)) (all_labels rs))

@@ -1,11 +1,11 @@
 -- What one turn of reading a file keeps.
-use Rattle.std.proofs.Common.{◌≡◌, ℕ, ◌<◌, ◌≤◌, List, [], ◌∷◌, ◌++◌, map, length, Some, None, Option, sym, ap, ◌∙◌, subst, append_assoc, append-nil, arith, length-append}
+use Rattle.std.proofs.Common.{◌≡◌, ℕ, ◌<◌, ◌≤◌, List, [], ◌∷◌, ◌++◌, map, length, Some, None, Option, sym, ap, ◌∙◌, subst, append_assoc, append-nil, arith}
 use mathlib.Core.List.{map-append}
 use Rattle.program.specs.declared.record.Record.{Record}
 use Rattle.program.specs.declared.refusal.Refusal.{Refusal}
 use Rattle.program.specs.Entries.{Entry, entry}
 use Rattle.program.specs.Files.{Listed, ended, stopped, next, Holds}
-use Rattle.program.specs.Format.{Spells, Refuses, body}
+use Rattle.program.specs.Format.{Spells, Refuses}
 
 -- whatever is read from the bytes left comes after what was read
 pub record Sofar (all : List ℕ) (records : List Record) (left : List ℕ) : Type 0 where
@@ -34,6 +34,3 @@ done records s none = finish records None s (subst (λ (x : List ℕ). Listed x 
 
 pub refuse : {all left : List ℕ} (records : List Record) (why : Refusal) → Sofar all records left → 0 < length left → Refuses why left → Holds all (map entry records) (Some why)
 refuse records why s some no_record = finish records (Some why) s (stopped some no_record)
-
-pub shorter : (bs rest : List ℕ) (e : Entry) → Spells bs e rest → length rest < length bs
-shorter bs rest e is = omega (arith, ap length is.1, length-append (body e) rest)

@@ -1,6 +1,6 @@
 -- The bytes of a record, and which bytes the questions of a record refuse.
-use Rattle.std.specs.Prelude.{◌≡◌, ℕ, ◌+◌, ◌*◌, ◌/◌, ◌%◌, ◌^◌, ◌<◌, ◌≤◌, List, [], ◌∷◌, ◌++◌, length, ◌≢◌, slice_index}
-use Rattle.std.specs.List.{flat_map, AllByRecursion}
+use Rattle.std.specs.Prelude.{◌≡◌, ℕ, ◌+◌, ◌*◌, ◌/◌, ◌%◌, ◌^◌, ◌<◌, ◌≤◌, List, [], ◌∷◌, ◌++◌, length, ◌≢◌, slice_index, All}
+use Rattle.std.specs.List.{flat_map}
 use Rattle.algebra.specs.declared.arc.Arc.{Arc}
 use Rattle.algebra.specs.declared.label.Label.{Label}
 use Rattle.program.specs.declared.fault.Fault.{Fault}
@@ -83,7 +83,7 @@ FitsArc a = (a.from < 256) × (a.to < 256) × FitsLabel a.label
 abbrev pub FitsBody : Entry → Type 0
 FitsBody (node s l) = (s < 256) × FitsLabel l
 FitsBody (pause s l) = (s < 256) × FitsLabel l
-FitsBody (table s arcs) = (s < 256) × AllByRecursion FitsArc arcs
+FitsBody (table s arcs) = (s < 256) × All FitsArc arcs
 FitsBody (choice a b) = (a < 256) × (b < 256)
 FitsBody (sequence a b) = (a < 256) × (b < 256)
 FitsBody (repeat s) = s < 256

@@ -1,6 +1,6 @@
 -- Bytes have one reading, and reading and writing undo each other.
-use Rattle.std.specs.Prelude.{◌≡◌, ℕ, List, ◌++◌, length, None, Option}
-use Rattle.std.specs.List.{flat_map, AllByRecursion}
+use Rattle.std.specs.Prelude.{◌≡◌, ℕ, List, ◌++◌, length, None, Option, All}
+use Rattle.std.specs.List.{flat_map}
 use Rattle.program.specs.declared.refusal.Refusal.{Refusal}
 use Rattle.program.specs.Entries.{Entry}
 use Rattle.program.specs.Files.{Listed}
@@ -22,5 +22,5 @@ pub record RoundTrip : Type 0 where
 -- the same of whole files
 pub record FileRoundTrip : Type 0 where
   pub one : (bs : List ℕ) (es fs : List Entry) (why other : Option Refusal) → Listed bs es why → Listed bs fs other → (es ≡ fs) × (why ≡ other)
-  pub back : (es : List Entry) → AllByRecursion Fits es → Listed (flat_map bytes es) es None
+  pub back : (es : List Entry) → All Fits es → Listed (flat_map bytes es) es None
   pub again : (bs : List ℕ) (es : List Entry) → Listed bs es None → bs ≡ flat_map bytes es

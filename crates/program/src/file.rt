@@ -34,15 +34,15 @@ pub fn list(heap: Global, bytes: &[u8]) -> Result<Listing, AllocError>
                 records.push(record)?;
                 left = rest;
             }
-            Err(fault) => match fault {
-                Fault::Refused(why) => {
-                    let refusal = Some(why);
-                    return Ok(Listing { records, refusal });
-                }
-                Fault::Memory => return Err(AllocError),
-            },
+            Err(Fault::Refused(why)) => return Ok(Listing {
+                records,
+                refusal: Some(why),
+            }),
+            Err(Fault::Memory) => return Err(AllocError),
         }
     }
-    let refusal = None;
-    Ok(Listing { records, refusal })
+    Ok(Listing {
+        records,
+        refusal: None,
+    })
 }

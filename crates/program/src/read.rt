@@ -4,7 +4,7 @@ ghost use Rattle.program.specs.Bodies.{Misfits};
 ghost use Rattle.program.specs.Entries.{entry};
 ghost use Rattle.program.specs.Format.{kind as kind_of, body as body_of, FitsBody, Spells, Stops};
 
-use crate::bodies::{shelf, shelves, step, table};
+use crate::bodies::{bytes, step, table};
 use crate::fault::Fault;
 use crate::kind::Kind;
 use crate::record::Record;
@@ -17,11 +17,11 @@ fn record(heap: Global, kind: Kind, body: &[u8]) -> Result<Record, Fault>
 {
     match kind {
         Kind::Node => {
-            let (shelf, label) = step(body).ok_or(Refusal::Misfit)?;
+            let (shelf, label) = step(body)?;
             Ok(Record::Node { shelf, label })
         }
         Kind::Pause => {
-            let (shelf, label) = step(body).ok_or(Refusal::Misfit)?;
+            let (shelf, label) = step(body)?;
             Ok(Record::Pause { shelf, label })
         }
         Kind::Table => {
@@ -29,27 +29,27 @@ fn record(heap: Global, kind: Kind, body: &[u8]) -> Result<Record, Fault>
             Ok(Record::Table { shelf, arcs })
         }
         Kind::Choice => {
-            let (first, second) = shelves(body).ok_or(Refusal::Misfit)?;
+            let [first, second] = *bytes::<2>(body)?;
             Ok(Record::Choice { first, second })
         }
         Kind::Sequence => {
-            let (first, second) = shelves(body).ok_or(Refusal::Misfit)?;
+            let [first, second] = *bytes::<2>(body)?;
             Ok(Record::Sequence { first, second })
         }
         Kind::Loop => {
-            let shelf = shelf(body).ok_or(Refusal::Misfit)?;
+            let [shelf] = *bytes::<1>(body)?;
             Ok(Record::Loop { shelf })
         }
         Kind::Fork => {
-            let (first, second) = shelves(body).ok_or(Refusal::Misfit)?;
+            let [first, second] = *bytes::<2>(body)?;
             Ok(Record::Fork { first, second })
         }
         Kind::Abort => {
-            let (first, second) = shelves(body).ok_or(Refusal::Misfit)?;
+            let [first, second] = *bytes::<2>(body)?;
             Ok(Record::Abort { first, second })
         }
         Kind::Clear => {
-            let shelf = shelf(body).ok_or(Refusal::Misfit)?;
+            let [shelf] = *bytes::<1>(body)?;
             Ok(Record::Clear { shelf })
         }
     }
@@ -67,7 +67,7 @@ pub fn read(heap: Global, bytes: &[u8]) -> Result<(Record, &[u8]), Fault>
         return Err(Fault::Refused(Refusal::Cut));
     }
     let (body, rest) = rest.split_at(length - 4);
-    let kind = Kind::of(u16::from_le_bytes([*k0, *k1])).ok_or(Refusal::Unknown)?;
+    let kind = Kind::try_from(u16::from_le_bytes([*k0, *k1]))?;
     let record = record(heap, kind, body)?;
     Ok((record, rest))
 }

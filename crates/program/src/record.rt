@@ -7,9 +7,6 @@ use crate::kind::Kind;
 use algebra::arc::Arc;
 use algebra::label::Label;
 
-// The most arcs of a table whose length two bytes hold.
-pub const MOST_ARCS: usize = 6_552;
-
 #[derive(Drop)]
 pub enum Record {
     Node { shelf: u8, label: Label },
@@ -47,11 +44,8 @@ impl Record {
         match self {
             Record::Node { .. } | Record::Pause { .. } => Some(13),
             Record::Table { arcs, .. } => {
-                let count = arcs.len();
-                if count > MOST_ARCS {
-                    return None;
-                }
-                Some(7 + 10 * count as u16)
+                let count = u16::try_from(arcs.len()).ok()?;
+                count.checked_mul(10)?.checked_add(7)
             }
             Record::Choice { .. } | Record::Sequence { .. } => Some(6),
             Record::Fork { .. } | Record::Abort { .. } => Some(6),

@@ -5,13 +5,13 @@ ghost use Rattle.program.specs.Refusals.{number as number_of};
 #[derive(Clone, Copy, PartialEq, Eq, Debug)]
 pub enum Refusal {
     // the file has more than 32,768 bytes
-    Large,
+    Large = 14,
     // fewer than four bytes are left, or the length is not between 4 and the bytes left
-    Cut,
+    Cut = 15,
     // no kind has this number
-    Unknown,
+    Unknown = 16,
     // the length is not that of the kind
-    Misfit,
+    Misfit = 17,
 }
 
 impl Refusal {
@@ -19,11 +19,6 @@ impl Refusal {
     pub fn number(self) -> u8
         ensures { result ≡ number_of self }
     {
-        match self {
-            Refusal::Large => 14,
-            Refusal::Cut => 15,
-            Refusal::Unknown => 16,
-            Refusal::Misfit => 17,
-        }
+        self as u8
     }
 }

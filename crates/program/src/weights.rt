@@ -21,8 +21,7 @@ fn add_labels<V: Algebra>(start: V, more: &Record) -> V
     ensures { V.means result ≡ added V.model (V.means start) (labels (entry more.now)) }
 {
     match more {
-        Record::Node { label, .. } => start.add(V::weigh(*label)),
-        Record::Pause { label, .. } => start.add(V::weigh(*label)),
+        Record::Node { label, .. } | Record::Pause { label, .. } => start.add(V::weigh(*label)),
         Record::Table { arcs, .. } => add_arcs(start, arcs.as_slice()),
         Record::Choice { .. } | Record::Sequence { .. } => start,
         Record::Fork { .. } | Record::Abort { .. } => start,
@@ -57,9 +56,8 @@ fn label_count(of: &Record) -> usize
 pub fn count(records: &[Record]) -> usize
     ensures { result ≡ min (length (all_labels records.now)) 18446744073709551615 }
 {
-    let mut sum = 0usize;
-    for item in records {
-        sum = sum.saturating_add(label_count(item));
-    }
-    sum
+    records
+        .iter()
+        .map(label_count)
+        .fold(0usize, |sum, more| sum.saturating_add(more))
 }

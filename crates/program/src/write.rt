@@ -1,6 +1,6 @@
 // Writes one record.
-ghost use Rattle.std.specs.Prelude.{◌≡◌, ◌<◌, [], ◌∷◌, ◌++◌, length, MatchResult, OnOk};
-ghost use Rattle.std.specs.List.{flat_map, AllByRecursion};
+ghost use Rattle.std.specs.Prelude.{◌≡◌, ◌<◌, [], ◌∷◌, ◌++◌, length, MatchResult, OnOk, All};
+ghost use Rattle.std.specs.List.{flat_map};
 ghost use Rattle.program.specs.Entries.{entry};
 ghost use Rattle.program.specs.Format.{two, label_bytes, arc_bytes, FitsLabel, FitsArc, FitsBody, Fits, Resists, long, body as body_of, bytes};
 
@@ -27,7 +27,7 @@ fn put_arc(out: &mut Vec<u8>, arc: Arc) -> Result<(), AllocError>
 }
 
 fn put_arcs(out: &mut Vec<u8>, arcs: &[Arc]) -> Result<(), AllocError>
-    ensures { OnOk result (AllByRecursion FitsArc arcs.now × (out.new.items ≡ out.old.items ++ flat_map arc_bytes arcs.now)) }
+    ensures { OnOk result (All FitsArc arcs.now × (out.new.items ≡ out.old.items ++ flat_map arc_bytes arcs.now)) }
 {
     for arc in arcs {
         put_arc(out, *arc)?;
@@ -45,7 +45,7 @@ fn put_step(out: &mut Vec<u8>, shelf: u8, label: Label) -> Result<(), AllocError
 
 fn put_table(out: &mut Vec<u8>, shelf: u8, arcs: &[Arc]) -> Result<(), AllocError>
     requires { length arcs.now < 65536 }
-    ensures { OnOk result ((shelf < 256) × AllByRecursion FitsArc arcs.now × (out.new.items ≡ out.old.items ++ (shelf ∷ two (length arcs.now) ++ flat_map arc_bytes arcs.now))) }
+    ensures { OnOk result ((shelf < 256) × All FitsArc arcs.now × (out.new.items ≡ out.old.items ++ (shelf ∷ two (length arcs.now) ++ flat_map arc_bytes arcs.now))) }
 {
     let count = arcs.len() as u16;
     out.push(shelf)?;
@@ -54,34 +54,20 @@ fn put_table(out: &mut Vec<u8>, shelf: u8, arcs: &[Arc]) -> Result<(), AllocErro
     Ok(())
 }
 
-fn put_shelves(out: &mut Vec<u8>, first: u8, second: u8) -> Result<(), AllocError>
-    ensures { OnOk result ((first < 256) × (second < 256) × (out.new.items ≡ out.old.items ++ (first ∷ second ∷ []))) }
-{
-    out.extend_from_slice(&[first, second])?;
-    Ok(())
-}
-
-fn put_shelf(out: &mut Vec<u8>, shelf: u8) -> Result<(), AllocError>
-    ensures { OnOk result ((shelf < 256) × (out.new.items ≡ out.old.items ++ (shelf ∷ []))) }
-{
-    out.push(shelf)?;
-    Ok(())
-}
-
 fn put_body(out: &mut Vec<u8>, written: &Record) -> Result<(), AllocError>
     requires { long (entry written.now) < 65536 }
     ensures { OnOk result (FitsBody (entry written.now) × (out.new.items ≡ out.old.items ++ body_of (entry written.now))) }
 {
     match written {
-        Record::Node { shelf, label } => put_step(out, *shelf, *label),
-        Record::Pause { shelf, label } => put_step(out, *shelf, *label),
+        Record::Node { shelf, label } | Record::Pause { shelf, label } => {
+            put_step(out, *shelf, *label)
+        }
         Record::Table { shelf, arcs } => put_table(out, *shelf, arcs.as_slice()),
-        Record::Choice { first, second } => put_shelves(out, *first, *second),
-        Record::Sequence { first, second } => put_shelves(out, *first, *second),
-        Record::Loop { shelf } => put_shelf(out, *shelf),
-        Record::Fork { first, second } => put_shelves(out, *first, *second),
-        Record::Abort { first, second } => put_shelves(out, *first, *second),
-        Record::Clear { shelf } => put_shelf(out, *shelf),
+        Record::Choice { first, second }
+        | Record::Sequence { first, second }
+        | Record::Fork { first, second }
+        | Record::Abort { first, second } => out.extend_from_slice(&[*first, *second]),
+        Record::Loop { shelf } | Record::Clear { shelf } => out.extend_from_slice(&[*shelf]),
     }
 }
 

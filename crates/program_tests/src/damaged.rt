@@ -29,12 +29,12 @@ fn cut_short(rt: HostRuntime) -> Result<(), Fail> {
     let heap = rt.alloc();
     let cut = Some(Refusal::Cut);
     reads(&rt, heap, &[], 0, None)?;
-    for n in 1..13usize {
-        reads(&rt, heap, &NODE[0..n], 0, cut)?;
+    for n in 1..NODE.len() {
+        reads(&rt, heap, &NODE[..n], 0, cut)?;
     }
     reads(&rt, heap, &NODE, 1, None)?;
-    for n in 1..17usize {
-        reads(&rt, heap, &TABLE[0..n], 0, cut)?;
+    for n in 1..TABLE.len() {
+        reads(&rt, heap, &TABLE[..n], 0, cut)?;
     }
     reads(&rt, heap, &TABLE, 1, None)?;
     reads(&rt, heap, &[5, 0, 6, 0, 2, 5, 0, 6], 1, cut)

@@ -68,10 +68,7 @@ fn with_arcs(heap: Global, count: usize) -> Result<Record, Fail> {
             ports: 0,
         },
     };
-    let mut arcs = Vec::new(heap);
-    for _ in 0..count {
-        arcs.push(arc)?;
-    }
+    let arcs = vec![in heap; arc; count]?;
     Ok(Record::Table { shelf: 0, arcs })
 }
 

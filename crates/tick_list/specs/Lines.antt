@@ -1,5 +1,5 @@
 -- The plain words of records, arcs and sums.
-use Rattle.std.specs.Prelude.{ℕ, cond, List, ◌++◌, length, codes, decimal, ◌==◌}
+use Rattle.std.specs.Prelude.{ℕ, cond, if◌then◌else◌, List, ◌++◌, length, codes, decimal, ◌==◌}
 use Rattle.algebra.specs.declared.arc.Arc.{Arc}
 use Rattle.algebra.specs.declared.label.Label.{Label}
 use Rattle.program.specs.Entries.{Entry, node, pause, table, choice, sequence, repeat, fork, abort, clear}
@@ -35,7 +35,7 @@ words (clear s) = shelf_words (codes "clear") s
 
 -- where an arc leads: to a state, or out
 abbrev pub end_words : ℕ → List ℕ
-end_words to = cond (to == 255) (codes "out") (decimal to)
+end_words to = if to == 255 then codes "out" else decimal to
 
 -- an arc in words
 abbrev pub words_of_arc : Arc → List ℕ

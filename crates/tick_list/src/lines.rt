@@ -1,75 +1,69 @@
 // Records, arcs and sums in plain words.
-ghost use Rattle.std.specs.Prelude.{◌≡◌, length, IfOk, string_bytes};
+ghost use Rattle.std.specs.Prelude.{◌≡◌, Some, IfOk, string_bytes};
 ghost use Rattle.program.specs.Entries.{entry};
-ghost use Rattle.tick_list.specs.Lines.{step_words, table_words, shelf_words, shelves_words, words as words_of, end_words, words_of_arc, sum_words};
+ghost use Rattle.tick_list.specs.Lines.{label_words, words, end_words, words_of_arc, sum_words};
 
 use algebra::arc::{Arc, OUT};
 use algebra::label::Label;
 use program::record::Record;
 use std::alloc::{AllocError, Global};
+use std::fmt;
 
-fn step(heap: Global, name: &str, shelf: u8, label: Label) -> Result<String, AllocError>
-    ensures { IfOk result (λ s. string_bytes s ≡ step_words name.now shelf label) }
-{
-    let cycles = label.cycles;
-    let ports = label.ports;
-    format!(in heap; "{name} shelf {shelf} cycles {cycles} ports {ports}")
-}
+// A value as it is printed in plain words.
+#[derive(Clone, Copy)]
+pub struct Words<T>(pub T);
 
-fn one_shelf(heap: Global, name: &str, shelf: u8) -> Result<String, AllocError>
-    ensures { IfOk result (λ s. string_bytes s ≡ shelf_words name.now shelf) }
-{
-    format!(in heap; "{name} shelf {shelf}")
-}
+// A label, after what it is the label of.
+impl fmt::Display for Words<Label> {
+    ghost output = { λ w. Some (label_words w.0) };
 
-fn two_shelves(heap: Global, name: &str, first: u8, second: u8) -> Result<String, AllocError>
-    ensures { IfOk result (λ s. string_bytes s ≡ shelves_words name.now first second) }
-{
-    format!(in heap; "{name} shelves {first} {second}")
-}
-
-fn table(heap: Global, shelf: u8, arcs: &[Arc]) -> Result<String, AllocError>
-    ensures { IfOk result (λ s. string_bytes s ≡ table_words shelf (length arcs.now)) }
-{
-    let count = arcs.len();
-    format!(in heap; "table shelf {shelf} arcs {count}")
+    fn fmt<W: fmt::Write>(&self, f: &mut fmt::Formatter<W>) -> fmt::Result {
+        write!(f, " cycles {} ports {}", self.0.cycles, self.0.ports)
+    }
 }
 
 // A record, without its arcs.
-pub fn words(heap: Global, of: &Record) -> Result<String, AllocError>
-    ensures { IfOk result (λ s. string_bytes s ≡ words_of (entry of.now)) }
-{
-    match of {
-        Record::Node { shelf, label } => step(heap, "node", *shelf, *label),
-        Record::Pause { shelf, label } => step(heap, "pause", *shelf, *label),
-        Record::Table { shelf, arcs } => table(heap, *shelf, arcs.as_slice()),
-        Record::Choice { first, second } => two_shelves(heap, "choice", *first, *second),
-        Record::Sequence { first, second } => two_shelves(heap, "sequence", *first, *second),
-        Record::Loop { shelf } => one_shelf(heap, "loop", *shelf),
-        Record::Fork { first, second } => two_shelves(heap, "fork", *first, *second),
-        Record::Abort { first, second } => two_shelves(heap, "abort", *first, *second),
-        Record::Clear { shelf } => one_shelf(heap, "clear", *shelf),
+impl fmt::Display for Words<&Record> {
+    ghost output = { λ w. Some (words (entry w.0.now)) };
+
+    fn fmt<W: fmt::Write>(&self, f: &mut fmt::Formatter<W>) -> fmt::Result {
+        match self.0 {
+            Record::Node { shelf, label } => write!(f, "node shelf {shelf}{}", Words(*label)),
+            Record::Pause { shelf, label } => write!(f, "pause shelf {shelf}{}", Words(*label)),
+            Record::Table { shelf, arcs } => write!(f, "table shelf {shelf} arcs {}", arcs.len()),
+            Record::Choice { first, second } => write!(f, "choice shelves {first} {second}"),
+            Record::Sequence { first, second } => write!(f, "sequence shelves {first} {second}"),
+            Record::Loop { shelf } => write!(f, "loop shelf {shelf}"),
+            Record::Fork { first, second } => write!(f, "fork shelves {first} {second}"),
+            Record::Abort { first, second } => write!(f, "abort shelves {first} {second}"),
+            Record::Clear { shelf } => write!(f, "clear shelf {shelf}"),
+        }
     }
 }
 
-fn end(heap: Global, to: u8) -> Result<String, AllocError>
-    ensures { IfOk result (λ s. string_bytes s ≡ end_words to) }
-{
-    if to == OUT {
-        String::from_str(heap, "out")
-    } else {
-        format!(in heap; "{to}")
+// Where an arc leads: to a state, or out.
+#[derive(Clone, Copy)]
+struct End(u8);
+
+impl fmt::Display for End {
+    ghost output = { λ end. Some (end_words end.0) };
+
+    fn fmt<W: fmt::Write>(&self, f: &mut fmt::Formatter<W>) -> fmt::Result {
+        if self.0 == OUT {
+            f.write_str("out")
+        } else {
+            write!(f, "{}", self.0)
+        }
     }
 }
 
-pub fn arc_words(heap: Global, arc: Arc) -> Result<String, AllocError>
-    ensures { IfOk result (λ s. string_bytes s ≡ words_of_arc arc) }
-{
-    let from = arc.from;
-    let to = end(heap, arc.to)?;
-    let cycles = arc.label.cycles;
-    let ports = arc.label.ports;
-    format!(in heap; "from {from} to {to} cycles {cycles} ports {ports}")
+impl fmt::Display for Words<Arc> {
+    ghost output = { λ w. Some (words_of_arc w.0) };
+
+    fn fmt<W: fmt::Write>(&self, f: &mut fmt::Formatter<W>) -> fmt::Result {
+        let Arc { from, to, label } = self.0;
+        write!(f, "from {from} to {}{}", End(to), Words(label))
+    }
 }
 
 // A sum of cycles. One at the top may be past it, so it is shown as `over`.

@@ -6,7 +6,7 @@ mod lines;
 use algebra::best::Best;
 use algebra::ports::Ports;
 use algebra::worst::Worst;
-use lines::{arc_words, sum, words};
+use lines::{Words, sum};
 use program::file::list;
 use program::record::Record;
 use program::refusal::Refusal;
@@ -15,13 +15,10 @@ use std::io;
 use std::io::Read;
 
 fn print_record(rt: &HostRuntime, index: usize, of: &Record) -> io::Result<()> {
-    let heap = rt.alloc();
-    let line = words(heap, of)?;
-    println!(rt; "record {index} {line}")?;
+    println!(rt; "record {index} {}", Words(of))?;
     if let Record::Table { arcs, .. } = of {
         for (i, arc) in arcs.iter().enumerate() {
-            let line = arc_words(heap, *arc)?;
-            println!(rt; "  arc {i} {line}")?;
+            println!(rt; "  arc {i} {}", Words(*arc))?;
         }
     }
     Ok(())

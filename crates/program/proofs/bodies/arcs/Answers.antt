@@ -1,21 +1,11 @@
-use Rattle.std.proofs.Common.{◌≡◌, ℕ, List, [], ◌∷◌, ◌++◌, is_ok, sym, ap, ◌∙◌, subst, append_assoc}
-use Rattle.std.specs.List.{flat_map, AllByRecursion}
-use Rattle.std.proofs.ResultArms.{chosen}
-use Rattle.std.proofs.slice.Lists.{all_by_recursion_push}
-use Rattle.std.proofs.lemmas.List.{flat_map_more}
-use Rattle.algebra.specs.declared.arc.Arc.{Arc}
-use Rattle.program.specs.Format.{FitsArc, arc_bytes}
+use Rattle.std.proofs.Common.{◌≡◌, List, ℕ, rules, map, vec_items, IfOk, subst}
+use Rattle.std.proofs.lemmas.List.{map-id}
+use Rattle.std.proofs.lemmas.Iterator.{YieldsList-from_slice, YieldsList-from_map_by}
+use Rattle.std.proofs.lemmas.Iterator.Consumers.{map_from_collect}
+use Rattle.program.specs.Format.{arc_bytes}
 use Rattle.program.proofs.bodies.arcs.Goals as goal
 
--- one arc more, with fewer bytes left
-one_more : (bs : List ℕ) (xs : List Arc) (left : List ℕ) (a : Arc) (rest : List ℕ) → AllByRecursion FitsArc xs × (bs ≡ flat_map arc_bytes xs ++ left) → FitsArc a × (left ≡ arc_bytes a ++ rest) → AllByRecursion FitsArc (xs ++ a ∷ []) × (bs ≡ flat_map arc_bytes (xs ++ a ∷ []) ++ rest)
-one_more bs xs left a rest (fit, is) (fits, first) = (
-  all_by_recursion_push FitsArc xs a fit fits,
-  is ∙ ap (λ (l : List ℕ). flat_map arc_bytes xs ++ l) first ∙ sym (append_assoc (flat_map arc_bytes xs) (arc_bytes a) rest) ∙ ap (λ (l : List ℕ). l ++ rest) (flat_map_more arc_bytes [] xs a),
-)
-
-pub loop-arc-preserved : goal.loop-arc-preserved
-loop-arc-preserved c =
-    let pushed = chosen _ _ _ _ c.push.ensures.items (ap is_ok c.in_ok-push.was) in
-    subst (λ (l : List Arc). AllByRecursion FitsArc l × (c.args.bytes.now ≡ flat_map arc_bytes l ++ c.in-Some.rest.now)) (sym pushed)
-    (one_more _ _ _ _ _ c.loop-arc.invariant c.in-Some.ensures)
+pub returns-clause-bytes : goal.returns-clause-bytes
+returns-clause-bytes c =
+    subst (λ (l : List (List ℕ)). IfOk c.collect.result (λ v. map arc_bytes (vec_items v) ≡ l)) (map-id c.args.chunks.now)
+    (map_from_collect _ c.collect.ensures.ran (YieldsList-from_map_by _ arc_bytes (λ x. x) (YieldsList-from_slice c.args.chunks.now cc) c.map.ensures.closure (λ x r q k. search rules)))

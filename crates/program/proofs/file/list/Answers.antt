@@ -4,21 +4,18 @@ use Rattle.std.proofs.lemmas.List.{nil_from_length}
 use Rattle.program.specs.declared.fault.Fault.{Fault}
 use Rattle.program.specs.declared.record.Record.{Record}
 use Rattle.program.specs.Format.{Stops}
-use Rattle.program.proofs.Turns.{Sofar, one_more, done, refuse, shorter}
+use Rattle.program.proofs.Turns.{Sofar, one_more, done, refuse}
 use Rattle.program.proofs.file.list.Goals as goal
-
-pub loop-left-smaller : goal.loop-left-smaller
-loop-left-smaller c = shorter _ _ _ c.in-Ok.ensures
 
 pub loop-left-preserved : goal.loop-left-preserved
 loop-left-preserved c =
     let pushed = chosen _ _ _ _ c.push.ensures.items (ap is_ok c.in_ok-push-in-Ok.was) in
     subst (λ (l : List Record). Sofar c.args.bytes.now l c.in-Ok.rest.now) (sym pushed) (one_more _ _ c.loop-left.invariant c.in-Ok.ensures)
 
-pub returns-in-Refused : goal.returns-in-Refused
-returns-in-Refused c =
-    refuse _ _ c.loop-left.invariant (omega (arith, false-eqb _ 0 c.loop-left-test.ensures))
-    (subst (λ (f : Fault). Stops f c.loop-left.left.now) c.in-Refused.is c.in-Err.ensures)
+pub returns-in-Err-Refused : goal.returns-in-Err-Refused
+returns-in-Err-Refused c =
+    let no_record = subst (λ (f : Fault). Stops f c.loop-left.left.now) c.in-Err-Refused.field-0-is c.in-Err-Refused.ensures in
+    rw c.in-Err-Refused.why-is (refuse _ c.in-Err-Refused.why c.loop-left.invariant (omega (arith, false-eqb _ 0 c.loop-left-test.ensures)) no_record)
 
 pub returns : goal.returns
 returns c = done _ c.loop-left.invariant (nil_from_length _ (true-eqb _ 0 c.loop-left-test.ensures))

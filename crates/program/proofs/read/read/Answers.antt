@@ -1,10 +1,8 @@
 use Rattle.std.proofs.Common.{◌≡◌, sym, ◌∙◌, arith, ltb-false}
 use Rattle.std.proofs.lemmas.List.{take_rest}
-use Rattle.std.proofs.lemmas.Result.{err_from_is_err_and}
-use Rattle.std.proofs.lemmas.Option.{MatchOption-at_some}
 use Rattle.program.specs.Kinds.{number}
 use Rattle.program.specs.Format.{kind_in}
-use Rattle.program.proofs.Framing.{Parted, spelled, stops}
+use Rattle.program.proofs.Framing.{Parted, spelled}
 use Rattle.program.proofs.read.read.Goals as goal
 use Rattle.program.proofs.read.read.Goals.{In_ok-kind}
 
@@ -16,15 +14,7 @@ parts c = record {
 }
 
 known : (c : In_ok-kind) → kind_in c.args.bytes.now ≡ number c.in_ok-kind.kind
-known c =
-    sym c.from_le_bytes-2.ensures
-    ∙ MatchOption-at_some _ (λ k. c.from_le_bytes-2.result ≡ number k) _ c.in_ok-kind.ensures.ok_part c.of.ensures
-
-pub returns-in_err-record : goal.returns-in_err-record
-returns-in_err-record c =
-    let p = err_from_is_err_and c.from_residual-in_err-record.result c.from_residual-in_err-record.ensures.1 in
-    let at = (goal.at.returns-in_err-record c).In_ok-kind in
-    rw (p.1, p.2) (stops (parts at) _ _ (known at) c.in_err-record.ensures)
+known c = sym c.from_le_bytes-2.ensures ∙ c.in_ok-kind.ensures
 
 pub returns : goal.returns
 returns c =
