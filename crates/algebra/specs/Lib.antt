@@ -5,3 +5,4 @@ pub mod Coefficients
 pub mod HeldLemmas
 pub mod Bits
 pub mod Semilattice
+pub mod Words

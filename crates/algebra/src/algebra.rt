@@ -1,11 +1,11 @@
 // An algebra: values that labels weigh, joined over runs and added within a tick.
-ghost use Rattle.std.specs.Prelude.{◌≡◌, true, ◌⊎◌, Decides};
+ghost use Rattle.std.specs.Prelude.{◌≡◌, true, ◌⊎◌, ◌↔◌, IsTrue};
 ghost use Rattle.algebra.specs.Model.{Model};
 
 use crate::label::Label;
 
-pub trait Algebra: Copy {
-    // what the values mean; two values of one meaning are equal
+pub trait Algebra: Copy + Eq {
+    // what the values mean
     ghost model: { Model };
 
     ghost means: { Self → model.Carrier };
@@ -25,9 +25,8 @@ pub trait Algebra: Copy {
     fn chooses() -> bool
         ensures { result ≡ model.chooses };
 
-    // Do the two mean the same?
-    fn equal(self, other: Self) -> bool
-        ensures { Decides result (means self ≡ means other) };
+    // two values are equal exactly when they mean the same
+    ghost same: { (a b : Self) → IsTrue (Self.eq a b) ↔ (means a ≡ means b) };
 
     ghost join_assoc: { (a b c : model.Carrier) → model.join (model.join a b) c ≡ model.join a (model.join b c) };
 

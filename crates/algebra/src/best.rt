@@ -1,12 +1,15 @@
 // The best: the smaller of two, the sum held at the top.
-ghost use Rattle.std.specs.Prelude.{◌≤◌};
+ghost use Rattle.std.specs.Prelude.{◌≤◌, Some};
+ghost use Rattle.algebra.specs.Words.{cycles_words};
 ghost use Rattle.algebra.specs.Models.{best};
-ghost use Rattle.algebra.specs.HeldLemmas.{smaller_assoc, smaller_comm, smaller_self, sum_assoc, sum_comm, sum_zero, sum_smaller, smaller_chooses};
+ghost use Rattle.algebra.specs.HeldLemmas.{smaller_assoc, smaller_comm, smaller_self, sum_assoc, sum_comm, sum_zero, sum_smaller, smaller_chooses, decides_same};
 
 use crate::algebra::{Algebra, Choosing};
+use crate::cycles::Cycles;
 use crate::label::Label;
+use std::fmt;
 
-#[derive(Clone, Copy)]
+#[derive(Clone, Copy, PartialEq, Eq, Debug)]
 pub struct Best {
     pub cycles: u32,
     ghost within: { cycles ≤ 4294967295 },
@@ -16,6 +19,8 @@ impl Algebra for Best {
     ghost model = { best };
 
     ghost means = { λ w. record { amount = w.cycles; within = w.within } };
+
+    ghost same = { λ a b. decides_same _ _ };
 
     ghost join_assoc = { smaller_assoc };
 
@@ -58,14 +63,18 @@ impl Algebra for Best {
     fn chooses() -> bool {
         true
     }
-
-    fn equal(self, other: Best) -> bool {
-        self.cycles == other.cycles
-    }
 }
 
 impl Choosing for Best {
     fn chooses_always() -> bool {
         true
+    }
+}
+
+impl fmt::Display for Best {
+    ghost output = { λ sum. Some (cycles_words sum.cycles) };
+
+    fn fmt<W: fmt::Write>(&self, f: &mut fmt::Formatter<W>) -> fmt::Result {
+        Cycles(self.cycles).fmt(f)
     }
 }

@@ -39,12 +39,7 @@ pub fn mark<V: Algebra>(set: bool) -> Option<V>
 pub fn equal<V: Algebra>(a: Option<V>, b: Option<V>) -> bool
     ensures { Decides result (option_map V.means a ≡ option_map V.means b) }
 {
-    match (a, b) {
-        (None, None) => true,
-        (Some(x), Some(y)) => x.equal(y),
-        (None, Some(_)) => false,
-        (Some(_), None) => false,
-    }
+    a == b
 }
 
 // Coefficients keep the laws of their algebra, and absent is what a join leaves alone.

@@ -5,6 +5,7 @@ pub mod algebra;
 pub mod arc;
 pub mod best;
 pub mod coefficient;
+pub mod cycles;
 pub mod label;
 pub mod pair;
 pub mod ports;

@@ -5,7 +5,7 @@ ghost use Rattle.std.proofs.Common.{rules};
 use crate::algebra::Algebra;
 use crate::label::Label;
 
-#[derive(Clone, Copy)]
+#[derive(Clone, Copy, PartialEq, Eq, Debug)]
 pub struct Pair<A, B> {
     pub first: A,
     pub second: B,
@@ -15,6 +15,8 @@ impl<A: Algebra, B: Algebra> Algebra for Pair<A, B> {
     ghost model = { pair_of A.Algebra.model B.Algebra.model };
 
     ghost means = { λ p. (A.Algebra.means p.first, B.Algebra.means p.second) };
+
+    ghost same = { Prim.search rules };
 
     ghost join_assoc = { Prim.search rules };
 
@@ -62,11 +64,5 @@ impl<A: Algebra, B: Algebra> Algebra for Pair<A, B> {
 
     fn chooses() -> bool {
         false
-    }
-
-    fn equal(self, other: Pair<A, B>) -> bool {
-        let first = self.first.equal(other.first);
-        let second = self.second.equal(other.second);
-        first & second
     }
 }

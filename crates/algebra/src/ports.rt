@@ -1,14 +1,17 @@
 // The ports used: both the join and the sum are the union.
+ghost use Rattle.std.specs.Prelude.{Some, decimal};
 ghost use Rattle.algebra.specs.Models.{ports as model_of_ports};
 ghost use Rattle.algebra.specs.Bits.{or_assoc, or_or};
 ghost use Rattle.std.proofs.lemmas.Nat.{or_comm};
 ghost use Rattle.std.specs.Int.Bits.{or_self, or_zero_r};
 ghost use Rattle.std.proofs.lemmas.Bool.{false≢true};
+ghost use Rattle.std.proofs.lemmas.Bool.Decides.{Decides-eqb};
 
 use crate::algebra::Algebra;
 use crate::label::Label;
+use std::fmt;
 
-#[derive(Clone, Copy)]
+#[derive(Clone, Copy, PartialEq, Eq, Debug)]
 pub struct Ports {
     // one bit for each port
     pub bits: u32,
@@ -18,6 +21,8 @@ impl Algebra for Ports {
     ghost model = { model_of_ports };
 
     ghost means = { λ p. p.bits };
+
+    ghost same = { λ a b. Decides-eqb _ _ };
 
     ghost join_assoc = { or_assoc };
 
@@ -58,8 +63,13 @@ impl Algebra for Ports {
     fn chooses() -> bool {
         false
     }
+}
 
-    fn equal(self, other: Ports) -> bool {
-        self.bits == other.bits
+// As a number.
+impl fmt::Display for Ports {
+    ghost output = { λ p. Some (decimal p.bits) };
+
+    fn fmt<W: fmt::Write>(&self, f: &mut fmt::Formatter<W>) -> fmt::Result {
+        self.bits.fmt(f)
     }
 }

@@ -54,7 +54,7 @@ fn pairs(rt: HostRuntime) {
     let both = read.add(write);
     assert_eq!(rt; both.first.cycles, 11);
     assert_eq!(rt; both.second.bits, 0b111);
-    assert!(rt; !either.equal(both));
+    assert!(rt; either != both);
 }
 
 #[test]

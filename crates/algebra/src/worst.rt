@@ -1,12 +1,15 @@
 // The worst: the larger of two, the sum held at the top.
-ghost use Rattle.std.specs.Prelude.{◌≤◌};
+ghost use Rattle.std.specs.Prelude.{◌≤◌, Some};
+ghost use Rattle.algebra.specs.Words.{cycles_words};
 ghost use Rattle.algebra.specs.Models.{worst};
-ghost use Rattle.algebra.specs.HeldLemmas.{larger_assoc, larger_comm, larger_self, sum_assoc, sum_comm, sum_zero, sum_larger, larger_chooses};
+ghost use Rattle.algebra.specs.HeldLemmas.{larger_assoc, larger_comm, larger_self, sum_assoc, sum_comm, sum_zero, sum_larger, larger_chooses, decides_same};
 
 use crate::algebra::{Algebra, Choosing};
+use crate::cycles::Cycles;
 use crate::label::Label;
+use std::fmt;
 
-#[derive(Clone, Copy)]
+#[derive(Clone, Copy, PartialEq, Eq, Debug)]
 pub struct Worst {
     pub cycles: u32,
     ghost within: { cycles ≤ 4294967295 },
@@ -16,6 +19,8 @@ impl Algebra for Worst {
     ghost model = { worst };
 
     ghost means = { λ w. record { amount = w.cycles; within = w.within } };
+
+    ghost same = { λ a b. decides_same _ _ };
 
     ghost join_assoc = { larger_assoc };
 
@@ -58,14 +63,18 @@ impl Algebra for Worst {
     fn chooses() -> bool {
         true
     }
-
-    fn equal(self, other: Worst) -> bool {
-        self.cycles == other.cycles
-    }
 }
 
 impl Choosing for Worst {
     fn chooses_always() -> bool {
         true
+    }
+}
+
+impl fmt::Display for Worst {
+    ghost output = { λ sum. Some (cycles_words sum.cycles) };
+
+    fn fmt<W: fmt::Write>(&self, f: &mut fmt::Formatter<W>) -> fmt::Result {
+        Cycles(self.cycles).fmt(f)
     }
 }

@@ -1,17 +1,17 @@
-// Algebras that are printed: their names and the words of their figures.
+// Algebras that are printed: their names, and the words of their figures.
 #![tactic(auto)]
 
-ghost use Rattle.std.specs.Prelude.{◌≡◌, ℕ, List, IfOk, string_bytes, codes, decimal};
-ghost use Rattle.shown.specs.Figures.{cycles_words};
+ghost use Rattle.std.specs.Prelude.{◌≡◌, ℕ, List, Some, codes, decimal, refl};
+ghost use Rattle.algebra.specs.Words.{cycles_words};
 
 use algebra::algebra::Algebra;
 use algebra::best::Best;
 use algebra::ports::Ports;
 use algebra::worst::Worst;
-use std::alloc::{AllocError, Global};
+use std::fmt::Display;
 
-// Its name, and the words of a figure.
-pub trait Shown: Algebra {
+// Its name, and the words of a figure, which is printed by itself.
+pub trait Shown: Algebra + Display {
     ghost named: { List ℕ };
 
     ghost words: { Self → List ℕ };
@@ -19,19 +19,8 @@ pub trait Shown: Algebra {
     fn name() -> &'static str
         ensures { result.now ≡ named };
 
-    fn figure(self, heap: Global) -> Result<String, AllocError>
-        ensures { IfOk result (λ s. string_bytes s ≡ words self) };
-}
-
-// A sum of cycles. One at the top may be past it, so it is shown as `over`.
-fn cycles_shown(heap: Global, cycles: u32) -> Result<String, AllocError>
-    ensures { IfOk result (λ s. string_bytes s ≡ cycles_words cycles) }
-{
-    if cycles == u32::MAX {
-        String::from_str(heap, "over")
-    } else {
-        format!(in heap; "{cycles}")
-    }
+    // a figure prints its words
+    ghost prints: { (v : Self) → Self.output v ≡ Some (words v) };
 }
 
 impl Shown for Worst {
@@ -39,12 +28,10 @@ impl Shown for Worst {
 
     ghost words = { λ v. cycles_words v.cycles };
 
+    ghost prints = { λ v. refl };
+
     fn name() -> &'static str {
         "worst"
-    }
-
-    fn figure(self, heap: Global) -> Result<String, AllocError> {
-        cycles_shown(heap, self.cycles)
     }
 }
 
@@ -53,12 +40,10 @@ impl Shown for Best {
 
     ghost words = { λ v. cycles_words v.cycles };
 
+    ghost prints = { λ v. refl };
+
     fn name() -> &'static str {
         "best"
-    }
-
-    fn figure(self, heap: Global) -> Result<String, AllocError> {
-        cycles_shown(heap, self.cycles)
     }
 }
 
@@ -67,12 +52,9 @@ impl Shown for Ports {
 
     ghost words = { λ v. decimal v.bits };
 
+    ghost prints = { λ v. refl };
+
     fn name() -> &'static str {
         "ports"
-    }
-
-    fn figure(self, heap: Global) -> Result<String, AllocError> {
-        let bits = self.bits;
-        format!(in heap; "{bits}")
     }
 }
