@@ -1,3 +1,4 @@
+pub mod Passing
 pub mod Alone
 pub mod Taking
 pub mod Telling

@@ -37,10 +37,10 @@ module _ (m : Model) where
     pub takes : Takes before s s'
     pub first_no : FirstNo (Yes m s' (as_call refused)) order q
 
-  -- how many entries are accepted, and which question is the first no
-  abbrev pub Took : List Entry → State m → State m → ℕ → Option Refusal → Type 0
-  Took es s s' count None = (count ≡ length es) × Takes es s s'
-  Took es s s' count (Some q) = StopsAt es s s' count q
+  -- every entry is accepted, or the rack refuses the call of one, with how many were accepted before
+  abbrev pub Took : List Entry → State m → State m → Result (Unit {0}) Fault → Type 0
+  Took es s s' (Ok done) = Takes es s s'
+  Took es s s' (Err fault) = (q : Refusal) × (fault.why ≡ Rack q) × StopsAt es s s' fault.accepted q
 
   -- shelf k alone is filled
   pub record Only (s : State m) (k : ℕ) : Type 0 where

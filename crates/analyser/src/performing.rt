@@ -7,6 +7,7 @@ ghost use Rattle.shelves.specs.Promise.{Answers};
 ghost use Rattle.analyser.specs.Files.{Took};
 ghost use Rattle.analyser.specs.Records.{as_call};
 
+use crate::fault::{Fault, Why};
 use algebra::algebra::Algebra;
 use program::record::Record;
 use rack::rack::Rack;
@@ -28,30 +29,17 @@ fn perform<V: Algebra>(rack: &mut Rack<V>, of: &Record) -> Result<usize, Refusal
     }
 }
 
-// How many records were accepted, and the refusal that stopped them.
-#[derive(Clone, Copy)]
-pub struct Taken {
-    pub accepted: usize,
-    pub refusal: Option<Refusal>,
-}
-
 // Performs records up to the first that is refused.
-pub(crate) fn take_all<V: Algebra>(rack: &mut Rack<V>, records: &[Record]) -> Taken
-    ensures { Took V.model (map entry records.now) (state_of V.model V.means rack.old.core) (state_of V.model V.means rack.new.core) result.accepted result.refusal }
+pub(crate) fn take_all<V: Algebra>(rack: &mut Rack<V>, records: &[Record]) -> Result<(), Fault>
+    ensures { Took V.model (map entry records.now) (state_of V.model V.means rack.old.core) (state_of V.model V.means rack.new.core) result }
 {
-    for i in 0..records.len() {
-        match perform(rack, &records[i]) {
-            Ok(_) => {}
-            Err(found) => {
-                return Taken {
-                    accepted: i,
-                    refusal: Some(found),
-                };
-            }
+    for (i, record) in records.iter().enumerate() {
+        if let Err(found) = perform(rack, record) {
+            return Err(Fault {
+                accepted: i,
+                why: Why::Rack(found),
+            });
         }
     }
-    Taken {
-        accepted: records.len(),
-        refusal: None,
-    }
+    Ok(())
 }

@@ -12,17 +12,10 @@ use shelves::report::Report;
 pub(crate) fn sole<V: Algebra>(rack: &Rack<V>) -> Option<Report<V>>
     ensures { MatchOption result ((k : ℕ) → Only V.model (state_of V.model V.means rack.now.core) k → ⊥) (λ told. Sole V.model (state_of V.model V.means rack.now.core) (report_of V.model V.means told)) }
 {
-    let mut found = None;
-    for k in 0..16 {
-        match rack.report(k) {
-            Ok(report) => {
-                if found.is_some() {
-                    return None;
-                }
-                found = Some(report);
-            }
-            Err(_) => {}
-        }
+    let mut filled = (0..16).filter_map(|shelf| rack.report(shelf).ok());
+    let report = filled.next()?;
+    match filled.next() {
+        None => Some(report),
+        Some(_) => None,
     }
-    found
 }

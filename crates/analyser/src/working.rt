@@ -16,25 +16,16 @@ use shelves::report::Report;
 pub fn work<V: Algebra>(rack: &mut Rack<V>, listing: &Listing) -> Result<Report<V>, Fault>
     ensures { Works V.model (map entry listing.now.records.items) listing.now.refusal (state_of V.model V.means rack.old.core) (state_of V.model V.means rack.new.core) (found_of V.model V.means result) }
 {
-    let taken = take_all(rack, listing.records.as_slice());
-    let accepted = taken.accepted;
-    if let Some(found) = taken.refusal {
-        return Err(Fault {
-            accepted,
-            why: Why::Rack(found),
-        });
-    }
+    take_all(rack, listing.records.as_slice())?;
+    let accepted = listing.records.len();
     if let Some(found) = listing.refusal {
         return Err(Fault {
             accepted,
             why: Why::File(found),
         });
     }
-    match sole(rack) {
-        Some(report) => Ok(report),
-        None => Err(Fault {
-            accepted,
-            why: Why::NotOne,
-        }),
-    }
+    sole(rack).ok_or(Fault {
+        accepted,
+        why: Why::NotOne,
+    })
 }

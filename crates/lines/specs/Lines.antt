@@ -8,7 +8,7 @@ use Rattle.algebra.specs.declared.best.Best.{Best}
 use Rattle.algebra.specs.declared.ports.Ports.{Ports}
 use Rattle.algebra.specs.declared.worst.Worst.{Worst}
 use Rattle.algebra.specs.Models.{worst, best, ports}
-use Rattle.shown.specs.Figures.{cycles_words}
+use Rattle.algebra.specs.Words.{cycles_words}
 use Rattle.lines.specs.Words.{line_words}
 
 -- the text is the line of what the file comes to, in an algebra of this name whose figures have these words

@@ -11,19 +11,17 @@ fn agrees(rt: &HostRuntime, name: &str) -> io::Result<bool> {
     let bytes = fs::read(rt, file.as_str())?;
     let wanted = fs::read_to_string(rt, beside.as_str())?;
     let text = printout(heap, bytes.as_slice())?;
-    Ok(text.as_str() == wanted.as_str())
+    Ok(text == wanted)
 }
 
 fn main(rt: HostRuntime) -> io::Result<()> {
-    for (i, name) in env::args(&rt)?.enumerate() {
-        if i > 0 {
-            let said = if agrees(&rt, name.as_str())? {
-                "agrees"
-            } else {
-                "differs"
-            };
-            println!(rt; "{name} {said}")?;
-        }
+    for name in env::args(&rt)?.skip(1) {
+        let said = if agrees(&rt, name.as_str())? {
+            "agrees"
+        } else {
+            "differs"
+        };
+        println!(rt; "{name} {said}")?;
     }
     Ok(())
 }

@@ -1,5 +1,6 @@
 -- The state of a rack, from what it holds.
 use Rattle.std.specs.Prelude.{take}
+use Rattle.std.specs.declared.cmp.PartialEq.{Ghosts as Equality}
 use Rattle.algebra.specs.declared.algebra.Algebra.{Ghosts}
 use Rattle.algebra.specs.Model.{Model}
 use Rattle.rows.specs.Pieces.{meanings}
@@ -10,7 +11,7 @@ use Rattle.shelves.specs.Calls.{Call, node, pause, table, pair, loop, clear, rep
 use Rattle.shelves.specs.State.{State}
 use Rattle.shelves.specs.Tables.{shelves_of, steps_of, arcs_of}
 
-abbrev pub state_of : (m : Model) {V : Type 0} {algebra : Ghosts V} → (V → m.Carrier) → Core V algebra → State m
+abbrev pub state_of : (m : Model) {V : Type 0} {algebra : Ghosts V} {equality : Equality V} → (V → m.Carrier) → Core V algebra equality → State m
 state_of m means core = record {
   cells = meanings means (take 2048 core.cells.now);
   shelves = shelves_of core.shelves;

@@ -1,20 +1,25 @@
-use Rattle.std.proofs.Common.{◌+◌, sym, subst, arith}
-use Rattle.std.specs.Option.{option_map}
+use Rattle.std.proofs.Common.{rules, tests}
 use Rattle.shelves.specs.Held.{state_of}
-use Rattle.shelves.specs.Told.{report_of}
-use Rattle.analyser.proofs.Alone.{Found, found_none, found_first}
+use Rattle.analyser.proofs.Alone.{looked, none_found, one_found, two_found}
 use Rattle.analyser.proofs.sole.sole.Goals as goal
-use Rattle.analyser.proofs.sole.sole.Goals.{in-Ok+else-is_some, in-Err}
 
-pub loop-k-preserved : goal.loop-k-preserved
-loop-k-preserved g c =
-    let m = g.V.Algebra.model in
-    let f = g.V.Algebra.means in
-    let s = state_of m f c.args.rack.now.core in
-    let k = c.loop-k.k in
-    elim c.match-report.branch [
-      | in-Ok+else-is_some w ↦ subst (λ o. Found m s (k + 1) (option_map (report_of m f) o)) (sym w.found-is)
-          (found_first m s (report_of m f) k c.loop-k.found w.if-is_some.ensures c.loop-k.invariant (report_of m f w.in-Ok.report) w.in-Ok.ensures)
-      | in-Err w ↦ subst (λ o. Found m s (k + 1) (option_map (report_of m f) o)) (sym w.found-is)
-          (found_none m s k (omega arith) (option_map (report_of m f) c.loop-k.found) c.loop-k.invariant w.in-Err.field-0 w.in-Err.ensures.does)
-    ]
+pub returns-in_err-report : goal.returns-in_err-report
+returns-in_err-report g c =
+    let s = state_of g.V.Algebra.model g.V.Algebra.means c.args.rack.now.core in
+    rw c.from_residual.ensures
+    (none_found g.V.Algebra.model s g.V.Algebra.means _ c.filter_map-filled.result.f (λ k r q call. (search (rules, tests), search (rules, tests, looked)))
+    c.filter_map-filled.result.iter c.next.new.self.iter c.next.new.self.f c.next.result c.filter_map-filled.ensures.source c.next.ensures.steps c.in_err-report.was)
+
+pub returns-in-None : goal.returns-in-None
+returns-in-None g c =
+    let s = state_of g.V.Algebra.model g.V.Algebra.means c.args.rack.now.core in
+    one_found g.V.Algebra.model s g.V.Algebra.means _ c.filter_map-filled.result.f (λ k r q call. (search (rules, tests), search (rules, tests, looked)))
+    c.filter_map-filled.result.iter c.next.new.self.iter c.next.new.self.f c.next.result c.filter_map-filled.ensures.source c.next.ensures.steps c.in_ok-report.report c.in_ok-report.was
+    c.next-2.new.self.iter c.next-2.new.self.f c.next-2.result c.next-2.ensures.steps c.in-None.is
+
+pub returns-in-Some : goal.returns-in-Some
+returns-in-Some g c =
+    let s = state_of g.V.Algebra.model g.V.Algebra.means c.args.rack.now.core in
+    two_found g.V.Algebra.model s g.V.Algebra.means _ c.filter_map-filled.result.f (λ k r q call. (search (rules, tests), search (rules, tests, looked)))
+    c.filter_map-filled.result.iter c.next.new.self.iter c.next.new.self.f c.next.result c.filter_map-filled.ensures.source c.next.ensures.steps c.in_ok-report.report c.in_ok-report.was
+    c.next-2.new.self.iter c.next-2.new.self.f c.next-2.result c.next-2.ensures.steps c.in-Some.field-0 c.in-Some.is
