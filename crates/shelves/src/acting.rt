@@ -10,7 +10,7 @@ use crate::building::{empty, put_node, put_pause};
 use crate::call::Pairing;
 use crate::composing::{piece, put_loop, put_pair, put_table};
 use crate::core_state::Core;
-use crate::reply::Reply;
+use crate::reply::{Answer, Reply};
 use crate::report::Report;
 use crate::telling::report;
 use algebra::algebra::Algebra;
@@ -22,7 +22,7 @@ pub fn act_node<V: Algebra>(core: &mut Core<V>, shelf: u8, label: Label) -> Repl
     ensures { Does V.model (node_call shelf label) (reply_of V.model V.means result) (state_of V.model V.means core.old) (state_of V.model V.means core.new) }
 {
     put_node(core, shelf as usize, label);
-    Reply::Accepted(0)
+    Ok(Answer::Accepted(0))
 }
 
 pub fn act_pause<V: Algebra>(core: &mut Core<V>, shelf: u8, label: Label) -> Reply<V>
@@ -30,17 +30,15 @@ pub fn act_pause<V: Algebra>(core: &mut Core<V>, shelf: u8, label: Label) -> Rep
     ensures { Does V.model (pause_call shelf label) (reply_of V.model V.means result) (state_of V.model V.means core.old) (state_of V.model V.means core.new) }
 {
     put_pause(core, shelf as usize, label);
-    Reply::Accepted(0)
+    Ok(Answer::Accepted(0))
 }
 
 pub fn act_table<V: Algebra>(core: &mut Core<V>, shelf: u8, arcs: &[Arc]) -> Reply<V>
     requires { AllYes (Yes V.model (state_of V.model V.means core.old) (table_call shelf arcs.now)) early }
     ensures { Does V.model (table_call shelf arcs.now) (reply_of V.model V.means result) (state_of V.model V.means core.old) (state_of V.model V.means core.new) }
 {
-    match put_table(core, shelf as usize, arcs) {
-        Ok(number) => Reply::Accepted(number),
-        Err(found) => Reply::Refused(found),
-    }
+    let number = put_table(core, shelf as usize, arcs)?;
+    Ok(Answer::Accepted(number))
 }
 
 pub fn act_loop<V: Algebra>(core: &mut Core<V>, shelf: u8) -> Reply<V>
@@ -49,10 +47,8 @@ pub fn act_loop<V: Algebra>(core: &mut Core<V>, shelf: u8) -> Reply<V>
 {
     let k = shelf as usize;
     let i = core.shelves.at(k).step.unwrap_or(0);
-    match put_loop(core, k, i) {
-        Ok(number) => Reply::Accepted(number),
-        Err(found) => Reply::Refused(found),
-    }
+    let number = put_loop(core, k, i)?;
+    Ok(Answer::Accepted(number))
 }
 
 pub fn act_clear<V: Algebra>(core: &mut Core<V>, shelf: u8) -> Reply<V>
@@ -60,7 +56,7 @@ pub fn act_clear<V: Algebra>(core: &mut Core<V>, shelf: u8) -> Reply<V>
     ensures { Does V.model (clear_call shelf) (reply_of V.model V.means result) (state_of V.model V.means core.old) (state_of V.model V.means core.new) }
 {
     empty(core, shelf as usize);
-    Reply::Accepted(0)
+    Ok(Answer::Accepted(0))
 }
 
 // The report of a shelf, which only looks.
@@ -76,7 +72,7 @@ pub fn act_report<V: Algebra>(core: &Core<V>, shelf: u8) -> Reply<V>
     requires { AllYes (Yes V.model (state_of V.model V.means core.now) (report_call shelf)) early }
     ensures { Does V.model (report_call shelf) (reply_of V.model V.means result) (state_of V.model V.means core.now) (state_of V.model V.means core.now) }
 {
-    Reply::Reported(shelf_report(core, shelf))
+    Ok(Answer::Reported(shelf_report(core, shelf)))
 }
 
 pub fn act_pair<V: Algebra>(core: &mut Core<V>, kind: Pairing, first: u8, second: u8) -> Reply<V>
@@ -87,11 +83,7 @@ pub fn act_pair<V: Algebra>(core: &mut Core<V>, kind: Pairing, first: u8, second
     let b = second as usize;
     let i = core.shelves.at(a).step.unwrap_or(0);
     let j = core.shelves.at(b).step.unwrap_or(0);
-    match put_pair(core, kind, a, b, i, j) {
-        Ok(number) => {
-            empty(core, b);
-            Reply::Accepted(number)
-        }
-        Err(found) => Reply::Refused(found),
-    }
+    let number = put_pair(core, kind, a, b, i, j)?;
+    empty(core, b);
+    Ok(Answer::Accepted(number))
 }

@@ -44,18 +44,14 @@ pub fn answer<V: Algebra>(core: &mut Core<V>, call: Call) -> Reply<V>
     ensures does { Does V.model (call_of call.entry) (reply_of V.model V.means result) (state_of V.model V.means core.old) (state_of V.model V.means core.new) }
     ensures promise { (h : List (Event V.model)) → Made V.model h (state_of V.model V.means core.old) → Made V.model (record { call = call_of call.entry; reply = reply_of V.model V.means result } ∷ h) (state_of V.model V.means core.new) × Kept V.model (record { call = call_of call.entry; reply = reply_of V.model V.means result } ∷ h) (state_of V.model V.means core.new) }
 {
-    match first_no(core, call) {
-        Some(found) => Reply::Refused(found),
-        None => act(core, call),
-    }
+    first_no(core, call)?;
+    act(core, call)
 }
 
 // The answer to a report, which only looks.
 pub fn look<V: Algebra>(core: &Core<V>, shelf: u8) -> Result<Report<V>, Refusal>
     ensures { Answers V.model (report_call shelf) (shown V.model V.means result) (state_of V.model V.means core.now) (state_of V.model V.means core.now) }
 {
-    match first_no(core, Call::report(shelf)) {
-        Some(found) => Err(found),
-        None => Ok(shelf_report(core, shelf)),
-    }
+    first_no(core, Call::report(shelf))?;
+    Ok(shelf_report(core, shelf))
 }

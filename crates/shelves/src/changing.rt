@@ -10,7 +10,7 @@ use crate::answering::answer;
 use crate::call::Call;
 use crate::core_state::Core;
 use crate::refusal::Refusal;
-use crate::reply::Reply;
+use crate::reply::Answer;
 use algebra::algebra::Algebra;
 
 pub fn change<V: Algebra>(core: &mut Core<V>, call: Call) -> Result<usize, Refusal>
@@ -18,9 +18,8 @@ pub fn change<V: Algebra>(core: &mut Core<V>, call: Call) -> Result<usize, Refus
     ensures answers { Answers V.model (call_of call.entry) (answered V.model result) (state_of V.model V.means core.old) (state_of V.model V.means core.new) }
     ensures fills { OnOk result (AllByRecursion (IsFilled (state_of V.model V.means core.new)) (filled_by (call_of call.entry))) }
 {
-    match answer(core, call) {
-        Reply::Accepted(number) => Ok(number),
-        Reply::Refused(found) => Err(found),
-        Reply::Reported(_) => unreachable(),
+    match answer(core, call)? {
+        Answer::Accepted(number) => Ok(number),
+        Answer::Reported(_) => unreachable(),
     }
 }

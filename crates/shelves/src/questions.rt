@@ -5,7 +5,7 @@ ghost use Rattle.shelves.specs.Calls.{about, named};
 ghost use Rattle.shelves.specs.Held.{call_of};
 ghost use Rattle.shelves.specs.Questions.{Distinct, LawfulArc, UpToNamed, Begins};
 ghost use Rattle.shelves.specs.State.{empty_shelf};
-ghost use Rattle.shelves.specs.Tables.{shelves_of, steps_of, arcs_of};
+ghost use Rattle.shelves.specs.Tables.{shelves_of};
 
 use crate::arcs::{complete, lawful, light};
 use crate::call::Call;
@@ -85,16 +85,16 @@ pub fn occupied(shelves: &Shelves, call: Call) -> bool
 
 // Are fewer than 512 steps recorded?
 pub fn recordable(steps: &Steps, call: Call) -> bool
-    ensures { Decides result ((about (call_of call.entry)).builds ≡ true → length (steps_of steps.now) < 512) }
+    ensures { Decides result ((about (call_of call.entry)).builds ≡ true → length steps.now.items < 512) }
 {
     match call {
         Call::Clear { .. } => true,
         Call::Report { .. } => true,
-        Call::Node { .. } => steps.count < 512,
-        Call::Pause { .. } => steps.count < 512,
-        Call::Table { .. } => steps.count < 512,
-        Call::Pair { .. } => steps.count < 512,
-        Call::Loop { .. } => steps.count < 512,
+        Call::Node { .. } => !steps.is_full(),
+        Call::Pause { .. } => !steps.is_full(),
+        Call::Table { .. } => !steps.is_full(),
+        Call::Pair { .. } => !steps.is_full(),
+        Call::Loop { .. } => !steps.is_full(),
     }
 }
 
@@ -148,10 +148,10 @@ pub fn going(call: Call) -> bool
 
 // Do a table's arcs fit with those recorded?
 pub fn roomy(recorded: &Arcs, call: Call) -> bool
-    ensures { Decides result (AllByRecursion (λ arcs. length (arcs_of recorded.now) + length arcs ≤ 512) (about (call_of call.entry)).tables) }
+    ensures { Decides result (AllByRecursion (λ arcs. length recorded.now.items + length arcs ≤ 512) (about (call_of call.entry)).tables) }
 {
     match call {
-        Call::Table { arcs, .. } => arcs.len() <= 512 - recorded.count,
+        Call::Table { arcs, .. } => arcs.len() <= recorded.remaining_capacity(),
         Call::Node { .. } => true,
         Call::Pause { .. } => true,
         Call::Pair { .. } => true,
