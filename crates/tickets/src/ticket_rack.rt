@@ -1,7 +1,9 @@
 // A rack whose calls take tickets. At another rack a ticket is only a number, so every question is asked all the same.
-ghost use Rattle.std.specs.Prelude.{◌≡◌, ℕ, ◌<◌, ◌≤◌, min, [], map, length, take, drop, IfOk, IfErr, None as absent, MatchResult, OnErr, slice_index_or};
+ghost use Rattle.std.specs.Prelude.{◌≡◌, ℕ, ◌<◌, ◌≤◌, min, [], ◌∷◌, map, length, take, drop, IfOk, IfErr, None as absent, MatchResult, OnErr, slice_index_or};
 ghost use Rattle.shelves.specs.declared.call.Pairing.TheVariants as kind;
 ghost use Rattle.shelves.specs.Calls.{node as node_call, pause as pause_call, table as table_call, pair as pair_call, loop as loop_call, clear as clear_call, report as report_call};
+ghost use Rattle.shelves.specs.Changing.{Changing};
+ghost use Rattle.shelves.specs.Filling.{filled_by};
 ghost use Rattle.shelves.specs.Held.{state_of, call_of};
 ghost use Rattle.shelves.specs.Promise.{Fresh, Made, Kept, Answers, AnswersAll};
 ghost use Rattle.shelves.specs.Told.{reply_of, shown};
@@ -38,18 +40,27 @@ impl<'a, V: Algebra> TicketRack<'a, V> {
         TicketRack { core: open(cells) }
     }
 
+    // The ticket of a new leaf names the shelf that the call fills.
+    fn leaf(&mut self, call: Call, shelf: u8) -> Result<Built, Refusal>
+        requires leaf { Changing (call_of call) }
+        requires fills { filled_by (call_of call) ≡ shelf ∷ [] }
+        ensures answers { Answers V.model (call_of call.entry) (leaf_reply V.model result) (state_of V.model V.means self.old.core) (state_of V.model V.means self.new.core) }
+        ensures ticket { IfOk result (λ built. built.ticket.shelf ≡ shelf) }
+        ensures names { IfOk result (λ built. Names (state_of V.model V.means self.new.core) built.ticket) }
+    {
+        let number = change(&mut self.core, call)?;
+        Ok(Built {
+            ticket: Ticket { shelf },
+            number,
+        })
+    }
+
     pub fn node(&mut self, shelf: u8, label: Label) -> Result<Built, Refusal>
         ensures answers { Answers V.model (node_call shelf label) (leaf_reply V.model result) (state_of V.model V.means self.old.core) (state_of V.model V.means self.new.core) }
         ensures ticket { IfOk result (λ built. built.ticket.shelf ≡ shelf) }
         ensures names { IfOk result (λ built. Names (state_of V.model V.means self.new.core) built.ticket) }
     {
-        match change(&mut self.core, Call::node(shelf, label)) {
-            Ok(number) => Ok(Built {
-                ticket: Ticket { shelf },
-                number,
-            }),
-            Err(found) => Err(found),
-        }
+        self.leaf(Call::node(shelf, label), shelf)
     }
 
     pub fn pause(&mut self, shelf: u8, label: Label) -> Result<Built, Refusal>
@@ -57,13 +68,7 @@ impl<'a, V: Algebra> TicketRack<'a, V> {
         ensures ticket { IfOk result (λ built. built.ticket.shelf ≡ shelf) }
         ensures names { IfOk result (λ built. Names (state_of V.model V.means self.new.core) built.ticket) }
     {
-        match change(&mut self.core, Call::pause(shelf, label)) {
-            Ok(number) => Ok(Built {
-                ticket: Ticket { shelf },
-                number,
-            }),
-            Err(found) => Err(found),
-        }
+        self.leaf(Call::pause(shelf, label), shelf)
     }
 
     pub fn table(&mut self, shelf: u8, arcs: &[Arc]) -> Result<Built, Refusal>
@@ -71,13 +76,7 @@ impl<'a, V: Algebra> TicketRack<'a, V> {
         ensures ticket { IfOk result (λ built. built.ticket.shelf ≡ shelf) }
         ensures names { IfOk result (λ built. Names (state_of V.model V.means self.new.core) built.ticket) }
     {
-        match change(&mut self.core, Call::table(shelf, arcs)) {
-            Ok(number) => Ok(Built {
-                ticket: Ticket { shelf },
-                number,
-            }),
-            Err(found) => Err(found),
-        }
+        self.leaf(Call::table(shelf, arcs), shelf)
     }
 
     // Spends the second ticket; the first is then the result's. Refused, it hands both back.
