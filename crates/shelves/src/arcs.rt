@@ -24,7 +24,7 @@ pub fn light(arcs: &[Arc]) -> bool
 fn lawful_arc(arc: Arc) -> bool
     ensures { Decides result (LawfulArc arc) }
 {
-    (arc.from <= 63) & ((arc.to <= 63) | (arc.to == OUT))
+    arc.from <= 63 && (arc.to <= 63 || arc.to == OUT)
 }
 
 // Does every arc?
