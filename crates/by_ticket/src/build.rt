@@ -2,8 +2,9 @@
 ghost use Rattle.std.specs.Prelude.{◌≡◌, ℕ, ◌≢◌, List, IfOk, OnOk};
 ghost use Rattle.shelves.specs.declared.call.Pairing.TheVariants as kind;
 ghost use Rattle.shelves.specs.Calls.{pair, accepted, Event};
+ghost use Rattle.shelves.specs.Cores.{CoreAnswers};
 ghost use Rattle.shelves.specs.Held.{state_of};
-ghost use Rattle.shelves.specs.Promise.{Made, Answers};
+ghost use Rattle.shelves.specs.Promise.{Made};
 ghost use Rattle.tickets.specs.Tickets.{Names};
 ghost use Rattle.by_ticket.specs.Threads.{side_by_side, HoldsPlan};
 
@@ -33,7 +34,7 @@ fn fork<V: Algebra>(
     requires { (second.shelf ≢ first.shelf) × ((Names (state_of V.model V.means rack.old.core) first) × (Names (state_of V.model V.means rack.old.core) second)) }
     ensures names { IfOk result (λ ticket. Names (state_of V.model V.means rack.new.core) ticket) }
     ensures ticket { IfOk result (λ ticket. ticket ≡ first) }
-    ensures answers { OnOk result ((n : ℕ) × Answers V.model (pair kind.Fork first.shelf second.shelf) (accepted n) (state_of V.model V.means rack.old.core) (state_of V.model V.means rack.new.core)) }
+    ensures answers { OnOk result ((n : ℕ) × CoreAnswers V.model V.means (pair kind.Fork first.shelf second.shelf) (accepted n) rack.old.core rack.new.core) }
 {
     match rack.fork(first, second) {
         Ok(built) => {

@@ -3,8 +3,9 @@ ghost use Rattle.std.specs.Prelude.{◌≡◌, ◌+◌, ◌*◌, ◌≤◌, true
 ghost use Rattle.std.specs.List.{AllByRecursion};
 ghost use Rattle.rows.specs.Pieces.{meanings};
 ghost use Rattle.shelves.specs.Calls.{about};
+ghost use Rattle.shelves.specs.Cores.{CoreSaysYes};
 ghost use Rattle.shelves.specs.Held.{call_of, state_of};
-ghost use Rattle.shelves.specs.Questions.{Yes, AllYes, FirstNo};
+ghost use Rattle.shelves.specs.Questions.{Yes, FirstNo};
 ghost use Rattle.shelves.specs.Refusals.{early};
 
 use crate::call::Call;
@@ -46,7 +47,7 @@ fn ask(yes: bool, no: Refusal) -> Result<(), Refusal>
 
 // The first no among the questions that come before unrolling.
 pub fn first_no<V: Algebra>(core: &Core<V>, call: Call) -> Result<(), Refusal>
-    ensures { MatchResult result (λ _. AllYes (Yes V.model (state_of V.model V.means core.now) (call_of call.entry)) early) (λ no. FirstNo (Yes V.model (state_of V.model V.means core.now) (call_of call.entry)) early no) }
+    ensures { MatchResult result (λ _. CoreSaysYes V.model V.means (call_of call.entry) core.now) (λ no. FirstNo (Yes V.model (state_of V.model V.means core.now) (call_of call.entry)) early no) }
 {
     ask(numbered(call), Refusal::NoShelf)?;
     ask(apart(call), Refusal::SameShelf)?;
