@@ -24,6 +24,7 @@ pub struct Rack<'a, V: Algebra> {
     core: Core<'a, V>,
 }
 
+// Callers name each call by its own function; what they share is `change`.
 impl<'a, V: Algebra> Rack<'a, V> {
     // A new rack over lent cells, after `enough` said yes of them. The history begins.
     pub fn open(cells: &'a mut [Option<V>]) -> Rack<'a, V>

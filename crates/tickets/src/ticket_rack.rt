@@ -7,7 +7,7 @@ ghost use Rattle.shelves.specs.Cores.{CoreFresh, CoreOpens, CoreAnswers, CoreAns
 ghost use Rattle.shelves.specs.Filling.{filled_by};
 ghost use Rattle.shelves.specs.Held.{state_of, call_of};
 ghost use Rattle.shelves.specs.Told.{shown};
-ghost use Rattle.tickets.specs.Tickets.{leaf_reply, loop_reply, clear_reply, pair_reply, Names};
+ghost use Rattle.tickets.specs.Tickets.{loop_reply, clear_reply, NamesIn, LeafGives, PairGives};
 
 use crate::ticket::{Back, BothBack, Built, Ticket};
 use algebra::algebra::Algebra;
@@ -28,6 +28,7 @@ pub struct TicketRack<'a, V: Algebra> {
     core: Core<'a, V>,
 }
 
+// Callers name each call by its own function; what they share is `leaf`, `pair` and the crate below.
 impl<'a, V: Algebra> TicketRack<'a, V> {
     // A new rack over lent cells, after `enough` said yes of them. The history begins.
     pub fn open(cells: &'a mut [Option<V>]) -> TicketRack<'a, V>
@@ -44,9 +45,7 @@ impl<'a, V: Algebra> TicketRack<'a, V> {
     fn leaf(&mut self, call: Call, shelf: u8) -> Result<Built, Refusal>
         requires leaf { Changing (call_of call) }
         requires fills { filled_by (call_of call) ≡ shelf ∷ [] }
-        ensures answers { CoreAnswers V.model V.means (call_of call.entry) (leaf_reply V.model result) self.old.core self.new.core }
-        ensures ticket { IfOk result (λ built. built.ticket.shelf ≡ shelf) }
-        ensures names { IfOk result (λ built. Names (state_of V.model V.means self.new.core) built.ticket) }
+        ensures { LeafGives V.model V.means (call_of call.entry) shelf result self.old.core self.new.core }
     {
         let number = change(&mut self.core, call)?;
         Ok(Built {
@@ -56,34 +55,26 @@ impl<'a, V: Algebra> TicketRack<'a, V> {
     }
 
     pub fn node(&mut self, shelf: u8, label: Label) -> Result<Built, Refusal>
-        ensures answers { CoreAnswers V.model V.means (node_call shelf label) (leaf_reply V.model result) self.old.core self.new.core }
-        ensures ticket { IfOk result (λ built. built.ticket.shelf ≡ shelf) }
-        ensures names { IfOk result (λ built. Names (state_of V.model V.means self.new.core) built.ticket) }
+        ensures { LeafGives V.model V.means (node_call shelf label) shelf result self.old.core self.new.core }
     {
         self.leaf(Call::node(shelf, label), shelf)
     }
 
     pub fn pause(&mut self, shelf: u8, label: Label) -> Result<Built, Refusal>
-        ensures answers { CoreAnswers V.model V.means (pause_call shelf label) (leaf_reply V.model result) self.old.core self.new.core }
-        ensures ticket { IfOk result (λ built. built.ticket.shelf ≡ shelf) }
-        ensures names { IfOk result (λ built. Names (state_of V.model V.means self.new.core) built.ticket) }
+        ensures { LeafGives V.model V.means (pause_call shelf label) shelf result self.old.core self.new.core }
     {
         self.leaf(Call::pause(shelf, label), shelf)
     }
 
     pub fn table(&mut self, shelf: u8, arcs: &[Arc]) -> Result<Built, Refusal>
-        ensures answers { CoreAnswers V.model V.means (table_call shelf arcs.now) (leaf_reply V.model result) self.old.core self.new.core }
-        ensures ticket { IfOk result (λ built. built.ticket.shelf ≡ shelf) }
-        ensures names { IfOk result (λ built. Names (state_of V.model V.means self.new.core) built.ticket) }
+        ensures { LeafGives V.model V.means (table_call shelf arcs.now) shelf result self.old.core self.new.core }
     {
         self.leaf(Call::table(shelf, arcs), shelf)
     }
 
     // Spends the second ticket; the first is then the result's. Refused, it hands both back.
     fn pair(&mut self, kind: Pairing, first: Ticket, second: Ticket) -> Result<Built, BothBack>
-        ensures answers { CoreAnswers V.model V.means (pair_call kind first.shelf second.shelf) (pair_reply V.model result) self.old.core self.new.core }
-        ensures ticket { MatchResult result (λ built. built.ticket ≡ first) (λ back. (back.first ≡ first) × (back.second ≡ second)) }
-        ensures names { IfOk result (λ built. Names (state_of V.model V.means self.new.core) built.ticket) }
+        ensures { PairGives V.model V.means kind first second result self.old.core self.new.core }
     {
         let call = Call::pair(kind, first.shelf, second.shelf);
         match change(&mut self.core, call) {
@@ -99,33 +90,25 @@ impl<'a, V: Algebra> TicketRack<'a, V> {
     }
 
     pub fn choice(&mut self, first: Ticket, second: Ticket) -> Result<Built, BothBack>
-        ensures answers { CoreAnswers V.model V.means (pair_call kind.Choice first.shelf second.shelf) (pair_reply V.model result) self.old.core self.new.core }
-        ensures ticket { MatchResult result (λ built. built.ticket ≡ first) (λ back. (back.first ≡ first) × (back.second ≡ second)) }
-        ensures names { IfOk result (λ built. Names (state_of V.model V.means self.new.core) built.ticket) }
+        ensures { PairGives V.model V.means kind.Choice first second result self.old.core self.new.core }
     {
         self.pair(Pairing::Choice, first, second)
     }
 
     pub fn sequence(&mut self, first: Ticket, second: Ticket) -> Result<Built, BothBack>
-        ensures answers { CoreAnswers V.model V.means (pair_call kind.Sequence first.shelf second.shelf) (pair_reply V.model result) self.old.core self.new.core }
-        ensures ticket { MatchResult result (λ built. built.ticket ≡ first) (λ back. (back.first ≡ first) × (back.second ≡ second)) }
-        ensures names { IfOk result (λ built. Names (state_of V.model V.means self.new.core) built.ticket) }
+        ensures { PairGives V.model V.means kind.Sequence first second result self.old.core self.new.core }
     {
         self.pair(Pairing::Sequence, first, second)
     }
 
     pub fn fork(&mut self, first: Ticket, second: Ticket) -> Result<Built, BothBack>
-        ensures answers { CoreAnswers V.model V.means (pair_call kind.Fork first.shelf second.shelf) (pair_reply V.model result) self.old.core self.new.core }
-        ensures ticket { MatchResult result (λ built. built.ticket ≡ first) (λ back. (back.first ≡ first) × (back.second ≡ second)) }
-        ensures names { IfOk result (λ built. Names (state_of V.model V.means self.new.core) built.ticket) }
+        ensures { PairGives V.model V.means kind.Fork first second result self.old.core self.new.core }
     {
         self.pair(Pairing::Fork, first, second)
     }
 
     pub fn abort(&mut self, first: Ticket, second: Ticket) -> Result<Built, BothBack>
-        ensures answers { CoreAnswers V.model V.means (pair_call kind.Abort first.shelf second.shelf) (pair_reply V.model result) self.old.core self.new.core }
-        ensures ticket { MatchResult result (λ built. built.ticket ≡ first) (λ back. (back.first ≡ first) × (back.second ≡ second)) }
-        ensures names { IfOk result (λ built. Names (state_of V.model V.means self.new.core) built.ticket) }
+        ensures { PairGives V.model V.means kind.Abort first second result self.old.core self.new.core }
     {
         self.pair(Pairing::Abort, first, second)
     }
@@ -134,7 +117,7 @@ impl<'a, V: Algebra> TicketRack<'a, V> {
     pub fn repeat(&mut self, ticket: Ticket) -> Result<Built, Back>
         ensures answers { CoreAnswers V.model V.means (loop_call ticket.shelf) (loop_reply V.model result) self.old.core self.new.core }
         ensures ticket { MatchResult result (λ built. built.ticket ≡ ticket) (λ back. back.ticket ≡ ticket) }
-        ensures names { IfOk result (λ built. Names (state_of V.model V.means self.new.core) built.ticket) }
+        ensures names { IfOk result (λ built. NamesIn V.model V.means self.new.core built.ticket) }
     {
         match change(&mut self.core, Call::repeat(ticket.shelf)) {
             Ok(number) => Ok(Built { ticket, number }),
@@ -146,7 +129,7 @@ impl<'a, V: Algebra> TicketRack<'a, V> {
     pub fn clear(&mut self, ticket: Ticket) -> Result<usize, Back>
         ensures answers { CoreAnswers V.model V.means (clear_call ticket.shelf) (clear_reply V.model result) self.old.core self.new.core }
         ensures ticket { IfErr result (λ back. back.ticket ≡ ticket) }
-        ensures cleared { Names (state_of V.model V.means self.old.core) ticket → OnErr result (⊥) }
+        ensures cleared { NamesIn V.model V.means self.old.core ticket → OnErr result (⊥) }
     {
         match change(&mut self.core, Call::clear(ticket.shelf)) {
             Ok(number) => {
