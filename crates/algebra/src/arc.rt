@@ -4,7 +4,7 @@ use crate::label::Label;
 // Where an arc that leads out leads.
 pub const OUT: u8 = 255;
 
-#[derive(Clone, Copy, PartialEq, Eq, Debug)]
+#[derive(Clone, Copy, PartialEq, Eq, Debug, Default)]
 pub struct Arc {
     pub from: u8,
     pub to: u8,

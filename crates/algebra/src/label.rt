@@ -4,7 +4,7 @@ ghost use Rattle.std.specs.Prelude.{◌≡◌, nat_le};
 // The most cycles that a label may have.
 pub const MOST_CYCLES: u32 = 1_073_741_823;
 
-#[derive(Clone, Copy, PartialEq, Eq, Debug)]
+#[derive(Clone, Copy, PartialEq, Eq, Debug, Default)]
 pub struct Label {
     pub cycles: u32,
     // a set of ports, one bit for each

@@ -2,9 +2,10 @@
 ghost use Rattle.std.specs.Prelude.{◌≡◌, ℕ, ◌≢◌, List, IfOk, OnOk};
 ghost use Rattle.shelves.specs.declared.call.Pairing.TheVariants as kind;
 ghost use Rattle.shelves.specs.Calls.{pair, accepted, Event};
+ghost use Rattle.shelves.specs.Cores.{CoreAnswers};
 ghost use Rattle.shelves.specs.Held.{state_of};
-ghost use Rattle.shelves.specs.Promise.{Made, Answers};
-ghost use Rattle.tickets.specs.Tickets.{Names};
+ghost use Rattle.shelves.specs.Promise.{Made};
+ghost use Rattle.tickets.specs.Tickets.{NamesIn};
 ghost use Rattle.by_ticket.specs.Threads.{side_by_side, HoldsPlan};
 
 use algebra::algebra::Algebra;
@@ -15,8 +16,8 @@ use tickets::ticket_rack::TicketRack;
 
 // Clears a ticket that names a filled shelf, which is never refused.
 pub fn end<V: Algebra>(rack: &mut TicketRack<V>, ticket: Ticket)
-    requires { Names (state_of V.model V.means rack.old.core) ticket }
-    ensures { (other : Ticket) → other.shelf ≢ ticket.shelf → Names (state_of V.model V.means rack.old.core) other → Names (state_of V.model V.means rack.new.core) other }
+    requires { NamesIn V.model V.means rack.old.core ticket }
+    ensures { (other : Ticket) → other.shelf ≢ ticket.shelf → NamesIn V.model V.means rack.old.core other → NamesIn V.model V.means rack.new.core other }
 {
     match rack.clear(ticket) {
         Ok(_) => {}
@@ -30,10 +31,10 @@ fn fork<V: Algebra>(
     first: Ticket,
     second: Ticket,
 ) -> Result<Ticket, Refusal>
-    requires { (second.shelf ≢ first.shelf) × ((Names (state_of V.model V.means rack.old.core) first) × (Names (state_of V.model V.means rack.old.core) second)) }
-    ensures names { IfOk result (λ ticket. Names (state_of V.model V.means rack.new.core) ticket) }
+    requires { (second.shelf ≢ first.shelf) × ((NamesIn V.model V.means rack.old.core first) × (NamesIn V.model V.means rack.old.core second)) }
+    ensures names { IfOk result (λ ticket. NamesIn V.model V.means rack.new.core ticket) }
     ensures ticket { IfOk result (λ ticket. ticket ≡ first) }
-    ensures answers { OnOk result ((n : ℕ) × Answers V.model (pair kind.Fork first.shelf second.shelf) (accepted n) (state_of V.model V.means rack.old.core) (state_of V.model V.means rack.new.core)) }
+    ensures answers { OnOk result ((n : ℕ) × CoreAnswers V.model V.means (pair kind.Fork first.shelf second.shelf) (accepted n) rack.old.core rack.new.core) }
 {
     match rack.fork(first, second) {
         Ok(built) => {
@@ -55,7 +56,7 @@ pub fn build<V: Algebra>(
     sweep: &[Arc],
     radar: &[Arc],
 ) -> Result<Ticket, Refusal>
-    ensures names { IfOk result (λ ticket. Names (state_of V.model V.means rack.new.core) ticket) }
+    ensures names { IfOk result (λ ticket. NamesIn V.model V.means rack.new.core ticket) }
     ensures plan { IfOk result (λ ticket. (h : List (Event V.model)) → Made V.model h (state_of V.model V.means rack.old.core) → HoldsPlan V.model (state_of V.model V.means rack.new.core) ticket.shelf (side_by_side sweep.now radar.now)) }
 {
     let built = rack.table(0, sweep)?;

@@ -2,10 +2,9 @@
 ghost use Rattle.std.specs.Prelude.{◌≡◌, ℕ, ◌<◌, ◌≤◌, min, [], map, length, take, drop, None as absent, slice_index_or};
 ghost use Rattle.shelves.specs.declared.call.Pairing.TheVariants as kind;
 ghost use Rattle.shelves.specs.Calls.{node as node_call, pause as pause_call, table as table_call, pair as pair_call, loop as loop_call, clear as clear_call, report as report_call};
-ghost use Rattle.shelves.specs.Held.{state_of, call_of};
-ghost use Rattle.shelves.specs.Promise.{Fresh, Made, Kept, Answers, AnswersAll};
-ghost use Rattle.shelves.specs.Told.{reply_of, shown};
+ghost use Rattle.shelves.specs.Told.{shown};
 ghost use Rattle.shelves.specs.Changing.{answered};
+ghost use Rattle.shelves.specs.Cores.{CoreFresh, CoreOpens, CoreAnswers, CoreAnswersAll};
 
 use algebra::algebra::Algebra;
 use algebra::arc::Arc;
@@ -25,76 +24,77 @@ pub struct Rack<'a, V: Algebra> {
     core: Core<'a, V>,
 }
 
+// Callers name each call by its own function; what they share is `change`.
 impl<'a, V: Algebra> Rack<'a, V> {
     // A new rack over lent cells, after `enough` said yes of them. The history begins.
     pub fn open(cells: &'a mut [Option<V>]) -> Rack<'a, V>
         requires { 4096 ≤ length cells.old }
         ensures blank { (j : ℕ) → j < 4096 → slice_index_or result.core.cells.now j absent ≡ absent }
         ensures past { drop 4096 result.core.cells.now ≡ drop 4096 cells.old }
-        ensures fresh { Fresh V.model (state_of V.model V.means result.core) }
-        ensures promise { Made V.model [] (state_of V.model V.means result.core) × Kept V.model [] (state_of V.model V.means result.core) }
+        ensures fresh { CoreFresh V.model V.means result.core }
+        ensures promise { CoreOpens V.model V.means result.core }
     {
         Rack { core: open(cells) }
     }
 
     pub fn node(&mut self, shelf: u8, label: Label) -> Result<usize, Refusal>
-        ensures { Answers V.model (node_call shelf label) (answered V.model result) (state_of V.model V.means self.old.core) (state_of V.model V.means self.new.core) }
+        ensures { CoreAnswers V.model V.means (node_call shelf label) (answered V.model result) self.old.core self.new.core }
     {
         change(&mut self.core, Call::node(shelf, label))
     }
 
     pub fn pause(&mut self, shelf: u8, label: Label) -> Result<usize, Refusal>
-        ensures { Answers V.model (pause_call shelf label) (answered V.model result) (state_of V.model V.means self.old.core) (state_of V.model V.means self.new.core) }
+        ensures { CoreAnswers V.model V.means (pause_call shelf label) (answered V.model result) self.old.core self.new.core }
     {
         change(&mut self.core, Call::pause(shelf, label))
     }
 
     pub fn table(&mut self, shelf: u8, arcs: &[Arc]) -> Result<usize, Refusal>
-        ensures { Answers V.model (table_call shelf arcs.now) (answered V.model result) (state_of V.model V.means self.old.core) (state_of V.model V.means self.new.core) }
+        ensures { CoreAnswers V.model V.means (table_call shelf arcs.now) (answered V.model result) self.old.core self.new.core }
     {
         change(&mut self.core, Call::table(shelf, arcs))
     }
 
     pub fn choice(&mut self, first: u8, second: u8) -> Result<usize, Refusal>
-        ensures { Answers V.model (pair_call kind.Choice first second) (answered V.model result) (state_of V.model V.means self.old.core) (state_of V.model V.means self.new.core) }
+        ensures { CoreAnswers V.model V.means (pair_call kind.Choice first second) (answered V.model result) self.old.core self.new.core }
     {
         change(&mut self.core, Call::pair(Pairing::Choice, first, second))
     }
 
     pub fn sequence(&mut self, first: u8, second: u8) -> Result<usize, Refusal>
-        ensures { Answers V.model (pair_call kind.Sequence first second) (answered V.model result) (state_of V.model V.means self.old.core) (state_of V.model V.means self.new.core) }
+        ensures { CoreAnswers V.model V.means (pair_call kind.Sequence first second) (answered V.model result) self.old.core self.new.core }
     {
         change(&mut self.core, Call::pair(Pairing::Sequence, first, second))
     }
 
     pub fn fork(&mut self, first: u8, second: u8) -> Result<usize, Refusal>
-        ensures { Answers V.model (pair_call kind.Fork first second) (answered V.model result) (state_of V.model V.means self.old.core) (state_of V.model V.means self.new.core) }
+        ensures { CoreAnswers V.model V.means (pair_call kind.Fork first second) (answered V.model result) self.old.core self.new.core }
     {
         change(&mut self.core, Call::pair(Pairing::Fork, first, second))
     }
 
     pub fn abort(&mut self, first: u8, second: u8) -> Result<usize, Refusal>
-        ensures { Answers V.model (pair_call kind.Abort first second) (answered V.model result) (state_of V.model V.means self.old.core) (state_of V.model V.means self.new.core) }
+        ensures { CoreAnswers V.model V.means (pair_call kind.Abort first second) (answered V.model result) self.old.core self.new.core }
     {
         change(&mut self.core, Call::pair(Pairing::Abort, first, second))
     }
 
     // The call loop, whose name is a word of the language.
     pub fn repeat(&mut self, shelf: u8) -> Result<usize, Refusal>
-        ensures { Answers V.model (loop_call shelf) (answered V.model result) (state_of V.model V.means self.old.core) (state_of V.model V.means self.new.core) }
+        ensures { CoreAnswers V.model V.means (loop_call shelf) (answered V.model result) self.old.core self.new.core }
     {
         change(&mut self.core, Call::repeat(shelf))
     }
 
     pub fn clear(&mut self, shelf: u8) -> Result<usize, Refusal>
-        ensures { Answers V.model (clear_call shelf) (answered V.model result) (state_of V.model V.means self.old.core) (state_of V.model V.means self.new.core) }
+        ensures { CoreAnswers V.model V.means (clear_call shelf) (answered V.model result) self.old.core self.new.core }
     {
         change(&mut self.core, Call::clear(shelf))
     }
 
     // Report only looks.
     pub fn report(&self, shelf: u8) -> Result<Report<V>, Refusal>
-        ensures { Answers V.model (report_call shelf) (shown V.model V.means result) (state_of V.model V.means self.now.core) (state_of V.model V.means self.now.core) }
+        ensures { CoreAnswers V.model V.means (report_call shelf) (shown V.model V.means result) self.now.core self.now.core }
     {
         look(&self.core, shelf)
     }
@@ -103,7 +103,7 @@ impl<'a, V: Algebra> Rack<'a, V> {
     pub fn run(&mut self, calls: &[Call], replies: &mut [Reply<V>]) -> usize
         ensures count { result ≡ min (length calls.now) (length replies.old) }
         ensures rest { drop result replies.new ≡ drop result replies.old }
-        ensures answers { AnswersAll V.model (map call_of (take result calls.now)) (map (reply_of V.model V.means) (take result replies.new)) (state_of V.model V.means self.old.core) (state_of V.model V.means self.new.core) }
+        ensures answers { CoreAnswersAll V.model V.means (take result calls.now) (take result replies.new) self.old.core self.new.core }
     {
         answer_all(&mut self.core, calls, replies)
     }

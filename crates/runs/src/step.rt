@@ -1,7 +1,7 @@
 // A step: what one call of a program adds, recorded over the steps and arcs before it.
 use algebra::label::Label;
 
-#[derive(Clone, Copy)]
+#[derive(Clone, Copy, PartialEq, Eq, Debug)]
 pub enum Step {
     Node { label: Label },
     Pause { label: Label },
@@ -14,4 +14,11 @@ pub enum Step {
     Fork { first: usize, second: usize },
     // the first over the second
     Abort { first: usize, second: usize },
+}
+
+// What fills the places of a table where no step is recorded.
+impl Default for Step {
+    fn default() -> Step {
+        Step::Repeat { of: 0 }
+    }
 }

@@ -1,10 +1,13 @@
 -- What holds of every element of a list, of the elements before one, and of some element.
-use Rattle.std.proofs.Common.{◌≡◌, ℕ, zero, suc, ◌+◌, ◌<◌, ◌≤◌, true, false, leb, ◌⊎◌, List, [], ◌∷◌, ◌++◌, map, length, get_or, take, Decides, sym, refl, subst, inl, inr, ⊎_elim, le_of_suc-le-suc, not-suc-le-zero, arith}
+use Rattle.std.proofs.Common.{◌≡◌, ℕ, zero, suc, ◌+◌, ◌<◌, ◌≤◌, Bool, true, false, leb, ◌⊎◌, List, [], ◌∷◌, ◌++◌, map, length, get_or, take, Decides, sym, refl, ◌∙◌, subst, inl, inr, ⊎_elim, le_of_suc-le-suc, not-suc-le-zero, arith}
 use mathlib.Core.List.{Memᴰ as Among}
 use Rattle.std.proofs.ByRecursion.{All-get_or}
 use Rattle.std.proofs.lemmas.List.{take_more}
 use Rattle.std.proofs.lemmas.Bool.{false≢true, leb-false}
-use Rattle.std.specs.List.{AllByRecursion}
+use Rattle.std.proofs.lemmas.Bool.Decides.{Decides-like}
+use Rattle.std.proofs.lemmas.List.FromFn.{length-range_with_len, get_or-range_with_len}
+use Rattle.std.specs.Bool.{MatchBool}
+use Rattle.std.specs.List.{AllByRecursion, AllWithin, Any, Contains, HoldsAt, range_with_len}
 
 -- one element that fails, and not all pass
 pub fails : {X : Type 0} (P : X → Type 0) (xs : List X) (i : ℕ) (d : X) → i < length xs → (P (get_or xs i d) → ⊥) → Decides false (AllByRecursion P xs)
@@ -50,3 +53,26 @@ among_more xs i d x less m = go (take i xs) (rw (take_more xs i d less) at m)
     go [] (Among.tail n) = elim n [ ]
     go (y ∷ ys) (Among.head e) = inr (Among.head e)
     go (y ∷ ys) (Among.tail n) = ⊎_elim (λ e. inl e) (λ k. inr (Among.tail k)) (go ys n)
+
+-- and each one of the list stands at a place of it
+pub place : {X : Type 0} (xs : List X) (x : X) → Among x xs → Contains xs x
+place [] x m = elim m [ ]
+place (y ∷ ys) x (Among.head e) = (0, omega arith, sym e)
+place (y ∷ ys) x (Among.tail m) = let p = place ys x m in (suc p.0, omega (arith, p.1), p.2)
+
+-- some element passes exactly where one among them does
+pub among_any : {X : Type 0} (P : X → Type 0) (xs : List X) (r : Bool) → Decides r (Any P xs) → Decides r ((x : X) × Among x xs × P x)
+among_any P xs r = Decides-like r
+    (λ any. (any.1, subst (λ x. Among x xs) any.3 (among_at xs any.0 any.1 any.2), any.4))
+    (λ some. let p = place xs some.0 some.1 in (p.0, some.0, p.1, p.2, some.2))
+
+-- a test of each number below n decides whether all of them pass
+pub below : (P : ℕ → Type 0) (n : ℕ) (r : Bool)
+    → MatchBool r (AllWithin P (range_with_len 0 n) 0 (length (range_with_len 0 n))) ((k : ℕ) × (k < length (range_with_len 0 n)) × HoldsAt (λ q. P q → ⊥) (range_with_len 0 n) k)
+    → Decides r ((q : ℕ) → q < n → P q)
+below P n true all = passes (λ q less. subst P {y = q} (get_or-range_with_len 0 n q 0 less ∙ omega arith) (all q 0 (omega arith) (omega (arith, less, length-range_with_len 0 n))))
+below P n false some = (
+  λ e. absurd (false≢true e),
+  λ all.
+      let less : some.0 < n = omega (arith, some.1, length-range_with_len 0 n) in absurd (some.2 0 (subst P (sym (get_or-range_with_len 0 n some.0 0 less)) (all (0 + some.0) (omega (arith, less))))),
+)

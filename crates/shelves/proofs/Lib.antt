@@ -1,4 +1,3 @@
-pub mod Recording
 pub mod Elements
 pub mod Present
 pub mod LeafRows

@@ -9,14 +9,14 @@ use Rattle.shelves.specs.declared.call.Call.TheVariants as made
 use Rattle.shelves.specs.declared.core_state.Core.{Core}
 use Rattle.shelves.specs.Calls.{Call, node, pause, table, pair, loop, clear, report}
 use Rattle.shelves.specs.State.{State}
-use Rattle.shelves.specs.Tables.{shelves_of, steps_of, arcs_of}
+use Rattle.shelves.specs.Tables.{shelves_of}
 
 abbrev pub state_of : (m : Model) {V : Type 0} {algebra : Ghosts V} {equality : Equality V} → (V → m.Carrier) → Core V algebra equality → State m
 state_of m means core = record {
   cells = meanings means (take 2048 core.cells.now);
   shelves = shelves_of core.shelves;
-  steps = steps_of core.steps;
-  arcs = arcs_of core.arcs;
+  steps = core.steps.items;
+  arcs = core.arcs.items;
 }
 
 -- a call as a history has it: a table by its arcs

@@ -11,3 +11,4 @@ pub mod Promise
 pub mod Told
 pub mod Changing
 pub mod Filling
+pub mod Cores

@@ -4,8 +4,8 @@ use Rattle.std.specs.Option.{option_map}
 use Rattle.algebra.specs.Model.{Model}
 use Rattle.shelves.specs.declared.refusal.Refusal.{Refusal}
 use Rattle.shelves.specs.declared.report.Report.{Report as Made}
-use Rattle.shelves.specs.declared.reply.Reply.{Reply as Answer}
-use Rattle.shelves.specs.declared.reply.Reply.TheVariants as answer
+use Rattle.shelves.specs.declared.reply.Answer.{Answer}
+use Rattle.shelves.specs.declared.reply.Answer.TheVariants as answer
 use Rattle.shelves.specs.Calls.{Report, Reply, accepted, reported, refused}
 
 -- the figure by its meaning, and the rest as it is
@@ -18,10 +18,10 @@ report_of m means r = record {
 }
 
 -- a reply as a history has it
-abbrev pub reply_of : (m : Model) {V : Type 0} → (V → m.Carrier) → Answer V → Reply m
-reply_of m means (answer.Accepted n) = accepted n
-reply_of m means (answer.Reported r) = reported (report_of m means r)
-reply_of m means (answer.Refused found) = refused found
+abbrev pub reply_of : (m : Model) {V : Type 0} → (V → m.Carrier) → Result (Answer V) Refusal → Reply m
+reply_of m means (Ok (answer.Accepted n)) = accepted n
+reply_of m means (Ok (answer.Reported r)) = reported (report_of m means r)
+reply_of m means (Err found) = refused found
 
 -- the answer of a report alone, as a history has it
 abbrev pub shown : (m : Model) {V : Type 0} → (V → m.Carrier) → Result (Made V) Refusal → Reply m

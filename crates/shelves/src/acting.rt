@@ -1,16 +1,13 @@
 // Acting on a call whose questions before unrolling all said yes.
 ghost use Rattle.shelves.specs.Calls.{node as node_call, pause as pause_call, table as table_call, pair as pair_call, loop as loop_call, clear as clear_call, report as report_call, reported};
-ghost use Rattle.shelves.specs.Effects.{Does};
-ghost use Rattle.shelves.specs.Held.{state_of};
-ghost use Rattle.shelves.specs.Questions.{Yes, AllYes};
-ghost use Rattle.shelves.specs.Refusals.{early};
+ghost use Rattle.shelves.specs.Cores.{CoreSaysYes, CoreDoes};
 ghost use Rattle.shelves.specs.Told.{reply_of, report_of};
 
 use crate::building::{empty, put_node, put_pause};
 use crate::call::Pairing;
 use crate::composing::{piece, put_loop, put_pair, put_table};
 use crate::core_state::Core;
-use crate::reply::Reply;
+use crate::reply::{Answer, Reply};
 use crate::report::Report;
 use crate::telling::report;
 use algebra::algebra::Algebra;
@@ -18,80 +15,72 @@ use algebra::arc::Arc;
 use algebra::label::Label;
 
 pub fn act_node<V: Algebra>(core: &mut Core<V>, shelf: u8, label: Label) -> Reply<V>
-    requires { AllYes (Yes V.model (state_of V.model V.means core.old) (node_call shelf label)) early }
-    ensures { Does V.model (node_call shelf label) (reply_of V.model V.means result) (state_of V.model V.means core.old) (state_of V.model V.means core.new) }
+    requires { CoreSaysYes V.model V.means (node_call shelf label) core.old }
+    ensures { CoreDoes V.model V.means (node_call shelf label) (reply_of V.model V.means result) core.old core.new }
 {
     put_node(core, shelf as usize, label);
-    Reply::Accepted(0)
+    Ok(Answer::Accepted(0))
 }
 
 pub fn act_pause<V: Algebra>(core: &mut Core<V>, shelf: u8, label: Label) -> Reply<V>
-    requires { AllYes (Yes V.model (state_of V.model V.means core.old) (pause_call shelf label)) early }
-    ensures { Does V.model (pause_call shelf label) (reply_of V.model V.means result) (state_of V.model V.means core.old) (state_of V.model V.means core.new) }
+    requires { CoreSaysYes V.model V.means (pause_call shelf label) core.old }
+    ensures { CoreDoes V.model V.means (pause_call shelf label) (reply_of V.model V.means result) core.old core.new }
 {
     put_pause(core, shelf as usize, label);
-    Reply::Accepted(0)
+    Ok(Answer::Accepted(0))
 }
 
 pub fn act_table<V: Algebra>(core: &mut Core<V>, shelf: u8, arcs: &[Arc]) -> Reply<V>
-    requires { AllYes (Yes V.model (state_of V.model V.means core.old) (table_call shelf arcs.now)) early }
-    ensures { Does V.model (table_call shelf arcs.now) (reply_of V.model V.means result) (state_of V.model V.means core.old) (state_of V.model V.means core.new) }
+    requires { CoreSaysYes V.model V.means (table_call shelf arcs.now) core.old }
+    ensures { CoreDoes V.model V.means (table_call shelf arcs.now) (reply_of V.model V.means result) core.old core.new }
 {
-    match put_table(core, shelf as usize, arcs) {
-        Ok(number) => Reply::Accepted(number),
-        Err(found) => Reply::Refused(found),
-    }
+    let number = put_table(core, shelf as usize, arcs)?;
+    Ok(Answer::Accepted(number))
 }
 
 pub fn act_loop<V: Algebra>(core: &mut Core<V>, shelf: u8) -> Reply<V>
-    requires { AllYes (Yes V.model (state_of V.model V.means core.old) (loop_call shelf)) early }
-    ensures { Does V.model (loop_call shelf) (reply_of V.model V.means result) (state_of V.model V.means core.old) (state_of V.model V.means core.new) }
+    requires { CoreSaysYes V.model V.means (loop_call shelf) core.old }
+    ensures { CoreDoes V.model V.means (loop_call shelf) (reply_of V.model V.means result) core.old core.new }
 {
     let k = shelf as usize;
     let i = core.shelves.at(k).step.unwrap_or(0);
-    match put_loop(core, k, i) {
-        Ok(number) => Reply::Accepted(number),
-        Err(found) => Reply::Refused(found),
-    }
+    let number = put_loop(core, k, i)?;
+    Ok(Answer::Accepted(number))
 }
 
 pub fn act_clear<V: Algebra>(core: &mut Core<V>, shelf: u8) -> Reply<V>
-    requires { AllYes (Yes V.model (state_of V.model V.means core.old) (clear_call shelf)) early }
-    ensures { Does V.model (clear_call shelf) (reply_of V.model V.means result) (state_of V.model V.means core.old) (state_of V.model V.means core.new) }
+    requires { CoreSaysYes V.model V.means (clear_call shelf) core.old }
+    ensures { CoreDoes V.model V.means (clear_call shelf) (reply_of V.model V.means result) core.old core.new }
 {
     empty(core, shelf as usize);
-    Reply::Accepted(0)
+    Ok(Answer::Accepted(0))
 }
 
 // The report of a shelf, which only looks.
 pub fn shelf_report<V: Algebra>(core: &Core<V>, shelf: u8) -> Report<V>
-    requires { AllYes (Yes V.model (state_of V.model V.means core.now) (report_call shelf)) early }
-    ensures { Does V.model (report_call shelf) (reported (report_of V.model V.means result)) (state_of V.model V.means core.now) (state_of V.model V.means core.now) }
+    requires { CoreSaysYes V.model V.means (report_call shelf) core.now }
+    ensures { CoreDoes V.model V.means (report_call shelf) (reported (report_of V.model V.means result)) core.now core.now }
 {
     let shown = piece(&core.shelves, shelf as usize);
     report(&*core.cells, shown)
 }
 
 pub fn act_report<V: Algebra>(core: &Core<V>, shelf: u8) -> Reply<V>
-    requires { AllYes (Yes V.model (state_of V.model V.means core.now) (report_call shelf)) early }
-    ensures { Does V.model (report_call shelf) (reply_of V.model V.means result) (state_of V.model V.means core.now) (state_of V.model V.means core.now) }
+    requires { CoreSaysYes V.model V.means (report_call shelf) core.now }
+    ensures { CoreDoes V.model V.means (report_call shelf) (reply_of V.model V.means result) core.now core.now }
 {
-    Reply::Reported(shelf_report(core, shelf))
+    Ok(Answer::Reported(shelf_report(core, shelf)))
 }
 
 pub fn act_pair<V: Algebra>(core: &mut Core<V>, kind: Pairing, first: u8, second: u8) -> Reply<V>
-    requires { AllYes (Yes V.model (state_of V.model V.means core.old) (pair_call kind first second)) early }
-    ensures { Does V.model (pair_call kind first second) (reply_of V.model V.means result) (state_of V.model V.means core.old) (state_of V.model V.means core.new) }
+    requires { CoreSaysYes V.model V.means (pair_call kind first second) core.old }
+    ensures { CoreDoes V.model V.means (pair_call kind first second) (reply_of V.model V.means result) core.old core.new }
 {
     let a = first as usize;
     let b = second as usize;
     let i = core.shelves.at(a).step.unwrap_or(0);
     let j = core.shelves.at(b).step.unwrap_or(0);
-    match put_pair(core, kind, a, b, i, j) {
-        Ok(number) => {
-            empty(core, b);
-            Reply::Accepted(number)
-        }
-        Err(found) => Reply::Refused(found),
-    }
+    let number = put_pair(core, kind, a, b, i, j)?;
+    empty(core, b);
+    Ok(Answer::Accepted(number))
 }

@@ -4,48 +4,41 @@ ghost use Rattle.std.specs.List.{AllByRecursion};
 ghost use Rattle.shelves.specs.Questions.{LawfulArc, UpToNamed, Begins};
 
 use algebra::arc::{Arc, OUT};
+use algebra::label::Label;
 
-// Are all cycles within the limit?
+// Are the label's cycles within the limit?
+pub fn mild(label: Label) -> bool
+    ensures { Decides result (label.cycles ≤ 1073741823) }
+{
+    label.allowed()
+}
+
+// Are those of every arc?
 pub fn light(arcs: &[Arc]) -> bool
     ensures { Decides result (AllByRecursion (λ l. l.cycles ≤ 1073741823) (map (λ a. a.label) arcs.now)) }
 {
-    for arc in arcs {
-        if !arc.label.allowed() {
-            return false;
-        }
-    }
-    true
+    arcs.iter().all(|arc| mild(arc.label))
 }
 
 // Does the arc lead from a state to a state or out?
 fn lawful_arc(arc: Arc) -> bool
     ensures { Decides result (LawfulArc arc) }
 {
-    (arc.from <= 63) & ((arc.to <= 63) | (arc.to == OUT))
+    arc.from <= 63 && (arc.to <= 63 || arc.to == OUT)
 }
 
 // Does every arc?
 pub fn lawful(arcs: &[Arc]) -> bool
     ensures { Decides result (AllByRecursion LawfulArc arcs.now) }
 {
-    for arc in arcs {
-        if !lawful_arc(*arc) {
-            return false;
-        }
-    }
-    true
+    arcs.iter().all(|arc| lawful_arc(*arc))
 }
 
 // Does some arc begin at the state?
 fn begun(arcs: &[Arc], state: usize) -> bool
     ensures { Decides result (Begins arcs.now state) }
 {
-    for arc in arcs {
-        if arc.from as usize == state {
-            return true;
-        }
-    }
-    false
+    arcs.iter().any(|arc| arc.from as usize == state)
 }
 
 // How many states an arc names, with those below: up to the one it begins at, and up to the one it leads to.
@@ -64,6 +57,7 @@ fn reach(arc: Arc) -> usize
 fn states(arcs: &[Arc]) -> usize
     ensures { (q : ℕ) → (q < result → UpToNamed arcs.now q) × (UpToNamed arcs.now q → q < result) }
 {
+    // A chain's `max` closes only over an equation for `reach`, which would be its body said again.
     let mut most = 0;
     for arc in arcs {
         most = reach(*arc).max(most);
@@ -75,10 +69,5 @@ fn states(arcs: &[Arc]) -> usize
 pub fn complete(arcs: &[Arc]) -> bool
     ensures { Decides result ((q : ℕ) → UpToNamed arcs.now q → Begins arcs.now q) }
 {
-    for q in 0..states(arcs) {
-        if !begun(arcs, q) {
-            return false;
-        }
-    }
-    true
+    (0..states(arcs)).all(|q| begun(arcs, q))
 }

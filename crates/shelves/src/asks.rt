@@ -1,10 +1,11 @@
 // Asking a call's questions in their order.
-ghost use Rattle.std.specs.Prelude.{◌≡◌, ◌+◌, ◌*◌, ◌≤◌, false, not, length, take, is_some, None as absent, Decides, MatchOption, slice_index_or};
+ghost use Rattle.std.specs.Prelude.{◌≡◌, ◌+◌, ◌*◌, ◌≤◌, true, false, not, length, take, is_some, None as absent, Decides, MatchResult, slice_index_or};
 ghost use Rattle.std.specs.List.{AllByRecursion};
 ghost use Rattle.rows.specs.Pieces.{meanings};
 ghost use Rattle.shelves.specs.Calls.{about};
+ghost use Rattle.shelves.specs.Cores.{CoreSaysYes};
 ghost use Rattle.shelves.specs.Held.{call_of, state_of};
-ghost use Rattle.shelves.specs.Questions.{Yes, AllYes, FirstNo};
+ghost use Rattle.shelves.specs.Questions.{Yes, FirstNo};
 ghost use Rattle.shelves.specs.Refusals.{early};
 
 use crate::call::Call;
@@ -33,48 +34,30 @@ fn staying<V: Algebra>(cells: &[Option<V>], call: Call) -> bool
 {
     match call {
         Call::Loop { shelf } => stays(cells, shelf),
-        Call::Node { .. } => true,
-        Call::Pause { .. } => true,
-        Call::Table { .. } => true,
-        Call::Pair { .. } => true,
-        Call::Clear { .. } => true,
-        Call::Report { .. } => true,
+        _ => true,
     }
 }
 
-// The first no among the questions that come before unrolling.
-pub fn first_no<V: Algebra>(core: &Core<V>, call: Call) -> Option<Refusal>
-    ensures { MatchOption result (AllYes (Yes V.model (state_of V.model V.means core.now) (call_of call.entry)) early) (λ no. FirstNo (Yes V.model (state_of V.model V.means core.now) (call_of call.entry)) early no) }
+// Goes on after a yes, and ends with the refusal after a no.
+fn ask(yes: bool, no: Refusal) -> Result<(), Refusal>
+    ensures { MatchResult result (λ _. yes ≡ true) (λ found. (yes ≡ false) × (found ≡ no)) }
 {
-    if !numbered(call) {
-        return Some(Refusal::NoShelf);
-    }
-    if !apart(call) {
-        return Some(Refusal::SameShelf);
-    }
-    if !vacant(&core.shelves, call) {
-        return Some(Refusal::ShelfTaken);
-    }
-    if !occupied(&core.shelves, call) {
-        return Some(Refusal::ShelfEmpty);
-    }
-    if !measured(call) {
-        return Some(Refusal::ManyCycles);
-    }
-    if !tabular(call) {
-        return Some(Refusal::BadArcs);
-    }
-    if !going(call) {
-        return Some(Refusal::StateWithoutArc);
-    }
-    if !recordable(&core.steps, call) {
-        return Some(Refusal::StepsFull);
-    }
-    if !roomy(&core.arcs, call) {
-        return Some(Refusal::ArcsFull);
-    }
-    if !staying(&*core.cells, call) {
-        return Some(Refusal::LeavesAtOnce);
-    }
-    None
+    if yes { Ok(()) } else { Err(no) }
+}
+
+// The first no among the questions that come before unrolling.
+pub fn first_no<V: Algebra>(core: &Core<V>, call: Call) -> Result<(), Refusal>
+    ensures { MatchResult result (λ _. CoreSaysYes V.model V.means (call_of call.entry) core.now) (λ no. FirstNo (Yes V.model (state_of V.model V.means core.now) (call_of call.entry)) early no) }
+{
+    ask(numbered(call), Refusal::NoShelf)?;
+    ask(apart(call), Refusal::SameShelf)?;
+    ask(vacant(&core.shelves, call), Refusal::ShelfTaken)?;
+    ask(occupied(&core.shelves, call), Refusal::ShelfEmpty)?;
+    ask(measured(call), Refusal::ManyCycles)?;
+    ask(tabular(call), Refusal::BadArcs)?;
+    ask(going(call), Refusal::StateWithoutArc)?;
+    ask(recordable(&core.steps, call), Refusal::StepsFull)?;
+    ask(roomy(&core.arcs, call), Refusal::ArcsFull)?;
+    ask(staying(&*core.cells, call), Refusal::LeavesAtOnce)?;
+    Ok(())
 }

@@ -4,8 +4,8 @@ ghost use Rattle.rows.specs.Pieces.{meanings};
 ghost use Rattle.runs.specs.declared.step.Step.TheVariants.{Node as node_step, Pause as pause_step};
 ghost use Rattle.shelves.specs.Effects.{Puts, Empties, node_row, pause_row};
 ghost use Rattle.shelves.specs.Held.{state_of};
-ghost use Rattle.shelves.specs.Stops.{stop_of, Built};
-ghost use Rattle.shelves.specs.Tables.{shelves_of, steps_of};
+ghost use Rattle.shelves.specs.Stops.{Built};
+ghost use Rattle.shelves.specs.Tables.{shelves_of};
 
 use crate::core_state::Core;
 use crate::leaves::{blank, write_node, write_pause};
@@ -13,7 +13,6 @@ use crate::refusal::Refusal;
 use crate::shelf::Shelf;
 use algebra::algebra::Algebra;
 use algebra::label::Label;
-use rows::outcome::Unkept;
 use rows::rule::RowRule;
 use rows::shape::Shape;
 use rows::unroll::unroll;
@@ -21,13 +20,13 @@ use runs::step::Step;
 
 // Records a step, and notes it with the shape of its rows on shelf k.
 fn settle<V: Algebra>(core: &mut Core<V>, k: usize, shape: Shape, step: Step)
-    requires { (k ≤ 15) × (core.old.steps.count < 512) }
+    requires { (k ≤ 15) × (length core.old.steps.items < 512) }
     ensures cells { core.new.cells ≡ core.old.cells }
-    ensures shelves { shelves_of core.new.shelves ≡ set (shelves_of core.old.shelves) k (record { step = present (length (steps_of core.old.steps)); transient = shape.transient; period = shape.period }) }
-    ensures steps { steps_of core.new.steps ≡ steps_of core.old.steps ++ step ∷ [] }
+    ensures shelves { shelves_of core.new.shelves ≡ set (shelves_of core.old.shelves) k (record { step = present (length core.old.steps.items); transient = shape.transient; period = shape.period }) }
+    ensures steps { core.new.steps.items ≡ core.old.steps.items ++ step ∷ [] }
     ensures arcs { core.new.arcs ≡ core.old.arcs }
 {
-    let number = Some(core.steps.count);
+    let number = Some(core.steps.len());
     core.shelves.put(
         k,
         Shelf {
@@ -40,7 +39,7 @@ fn settle<V: Algebra>(core: &mut Core<V>, k: usize, shape: Shape, step: Step)
 
 // Puts a node's rows on shelf k and records its step.
 pub fn put_node<V: Algebra>(core: &mut Core<V>, k: usize, label: Label)
-    requires { (k ≤ 15) × (core.old.steps.count < 512) }
+    requires { (k ≤ 15) × (length core.old.steps.items < 512) }
     ensures { Puts V.model (node_row V.model label) k (node_step label) [] (state_of V.model V.means core.old) (state_of V.model V.means core.new) }
 {
     let cells = std::mem::replace(&mut core.cells, &mut []);
@@ -59,7 +58,7 @@ pub fn put_node<V: Algebra>(core: &mut Core<V>, k: usize, label: Label)
 
 // Puts a pause's rows on shelf k and records its step.
 pub fn put_pause<V: Algebra>(core: &mut Core<V>, k: usize, label: Label)
-    requires { (k ≤ 15) × (core.old.steps.count < 512) }
+    requires { (k ≤ 15) × (length core.old.steps.items < 512) }
     ensures { Puts V.model (pause_row V.model label) k (pause_step label) [] (state_of V.model V.means core.old) (state_of V.model V.means core.new) }
 {
     let cells = std::mem::replace(&mut core.cells, &mut []);
@@ -87,16 +86,6 @@ pub fn empty<V: Algebra>(core: &mut Core<V>, k: usize)
     core.shelves.put(k, Shelf::empty());
 }
 
-// The refusal for what unrolling found.
-fn stop(no: Unkept) -> Refusal
-    ensures { result ≡ stop_of no }
-{
-    match no {
-        Unkept::NeverSoon => Refusal::NeverRepeats,
-        Unkept::TooLong => Refusal::TooLong,
-    }
-}
-
 // Unrolls a rule onto shelf k and records its step; the reply is the number of the first repeated situation.
 pub fn build<R: RowRule, V: Algebra>(
     core: &mut Core<V>,
@@ -104,18 +93,14 @@ pub fn build<R: RowRule, V: Algebra>(
     k: usize,
     step: Step,
 ) -> Result<usize, Refusal>
-    requires { (k ≤ 15) × (core.old.steps.count < 512) }
+    requires { (k ≤ 15) × (length core.old.steps.items < 512) }
     ensures does { Built V.Algebra.model (R.RowRule.works rule.now V.Algebra.model (meanings V.Algebra.means (take 2048 core.old.cells.now))) k step [] (state_of V.Algebra.model V.Algebra.means core.old) (state_of V.Algebra.model V.Algebra.means core.new) result }
     ensures arcs { core.new.arcs ≡ core.old.arcs }
 {
     let cells = std::mem::replace(&mut core.cells, &mut []);
     let kept = unroll(rule, cells, k);
     core.cells = cells;
-    match kept {
-        Ok(unrolled) => {
-            settle(core, k, unrolled.shape, step);
-            Ok(unrolled.reply)
-        }
-        Err(found) => Err(stop(found)),
-    }
+    let unrolled = kept?;
+    settle(core, k, unrolled.shape, step);
+    Ok(unrolled.reply)
 }

@@ -42,7 +42,7 @@ pub fn piece(shelves: &Shelves, k: usize) -> Piece
 
 // A loop of the piece on shelf k, whose step is i.
 pub fn put_loop<V: Algebra>(core: &mut Core<V>, k: usize, i: usize) -> Result<usize, Refusal>
-    requires { (k ≤ 15) × (core.old.steps.count < 512) }
+    requires { (k ≤ 15) × (length core.old.steps.items < 512) }
     ensures { Built V.model (loop_rule V.model (shelf_rows (state_of V.model V.means core.old) k)) k (loop_step i) [] (state_of V.model V.means core.old) (state_of V.model V.means core.new) result }
 {
     let a = piece(&core.shelves, k);
@@ -58,7 +58,7 @@ pub fn put_pair<V: Algebra>(
     i: usize,
     j: usize,
 ) -> Result<usize, Refusal>
-    requires { (first ≤ 15) × ((second ≤ 15) × (core.old.steps.count < 512)) }
+    requires { (first ≤ 15) × ((second ≤ 15) × (length core.old.steps.items < 512)) }
     ensures { Built V.model (pair_rule V.model kind (shelf_rows (state_of V.model V.means core.old) first) (shelf_rows (state_of V.model V.means core.old) second)) first (pair_step kind i j) [] (state_of V.model V.means core.old) (state_of V.model V.means core.new) result }
 {
     let a = piece(&core.shelves, first);
@@ -105,18 +105,14 @@ pub fn put_pair<V: Algebra>(
 
 // A table of arcs on shelf k, which are recorded with it.
 pub fn put_table<V: Algebra>(core: &mut Core<V>, k: usize, arcs: &[Arc]) -> Result<usize, Refusal>
-    requires { (k ≤ 15) × ((core.old.steps.count < 512) × (core.old.arcs.count + length arcs.now ≤ 512)) }
+    requires { (k ≤ 15) × ((length core.old.steps.items < 512) × (length core.old.arcs.items + length arcs.now ≤ 512)) }
     ensures { Built V.model (table_rule V.model arcs.now) k (table_step (length (state_of V.model V.means core.old).arcs) (length arcs.now)) arcs.now (state_of V.model V.means core.old) (state_of V.model V.means core.new) result }
 {
     let step = Step::Table {
-        first: core.arcs.count,
+        first: core.arcs.len(),
         count: arcs.len(),
     };
-    match build(core, &Table { arcs }, k, step) {
-        Ok(reply) => {
-            core.arcs.extend(arcs);
-            Ok(reply)
-        }
-        Err(found) => Err(found),
-    }
+    let reply = build(core, &Table { arcs }, k, step)?;
+    core.arcs.try_extend_from_slice(arcs).unwrap();
+    Ok(reply)
 }

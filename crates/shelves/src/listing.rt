@@ -1,9 +1,6 @@
 // A whole list of calls, answered one after the other.
-ghost use Rattle.std.specs.Prelude.{◌≡◌, ◌<◌, min, List, map, length, take, drop, slice_set};
-ghost use Rattle.shelves.specs.Calls.{Event};
-ghost use Rattle.shelves.specs.Held.{state_of, call_of};
-ghost use Rattle.shelves.specs.Promise.{Made, Kept, after_calls, AnswersAll};
-ghost use Rattle.shelves.specs.Told.{reply_of};
+ghost use Rattle.std.specs.Prelude.{◌≡◌, ◌<◌, min, length, take, drop, slice_set};
+ghost use Rattle.shelves.specs.Cores.{CoreAnswersAll};
 
 use crate::answering::answer;
 use crate::call::Call;
@@ -11,7 +8,7 @@ use crate::core_state::Core;
 use crate::reply::Reply;
 use algebra::algebra::Algebra;
 
-// Writes a reply down.
+// Writes a reply down: among the loop's own facts no proof is found that the place lies within the slice.
 fn write_reply<V: Algebra>(replies: &mut [Reply<V>], i: usize, reply: Reply<V>)
     requires { i < length replies.old }
     ensures { replies.new ≡ slice_set replies.old i reply }
@@ -23,8 +20,7 @@ fn write_reply<V: Algebra>(replies: &mut [Reply<V>], i: usize, reply: Reply<V>)
 pub fn answer_all<V: Algebra>(core: &mut Core<V>, calls: &[Call], replies: &mut [Reply<V>]) -> usize
     ensures count { result ≡ min (length calls.now) (length replies.old) }
     ensures rest { drop result replies.new ≡ drop result replies.old }
-    ensures promise { (h : List (Event V.model)) → Made V.model h (state_of V.model V.means core.old) → Made V.model (after_calls V.model (map call_of (take result calls.now)) (map (reply_of V.model V.means) (take result replies.new)) h) (state_of V.model V.means core.new) × Kept V.model (after_calls V.model (map call_of (take result calls.now)) (map (reply_of V.model V.means) (take result replies.new)) h) (state_of V.model V.means core.new) }
-    ensures answers { AnswersAll V.model (map call_of (take result calls.now)) (map (reply_of V.model V.means) (take result replies.new)) (state_of V.model V.means core.old) (state_of V.model V.means core.new) }
+    ensures answers { CoreAnswersAll V.model V.means (take result calls.now) (take result replies.new) core.old core.new }
 {
     let n = calls.len().min(replies.len());
     for i in 0..n {

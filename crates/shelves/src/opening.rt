@@ -1,7 +1,6 @@
 // Opening: what a rack of either kind holds at first.
 ghost use Rattle.std.specs.Prelude.{◌≡◌, ℕ, ◌<◌, ◌≤◌, [], length, drop, None as absent, Decides, slice_index_or, slice_set};
-ghost use Rattle.shelves.specs.Held.{state_of};
-ghost use Rattle.shelves.specs.Promise.{Fresh, Made, Kept};
+ghost use Rattle.shelves.specs.Cores.{CoreFresh, CoreOpens};
 
 use crate::core_state::Core;
 use crate::tables::{Arcs, Shelves, Steps};
@@ -38,8 +37,8 @@ pub fn open<'a, V: Algebra>(cells: &'a mut [Option<V>]) -> Core<'a, V>
     requires { 4096 ≤ length cells.old }
     ensures blank { (j : ℕ) → j < 4096 → slice_index_or result.cells.now j absent ≡ absent }
     ensures past { drop 4096 result.cells.now ≡ drop 4096 cells.old }
-    ensures fresh { Fresh V.model (state_of V.model V.means result) }
-    ensures promise { Made V.model [] (state_of V.model V.means result) × Kept V.model [] (state_of V.model V.means result) }
+    ensures fresh { CoreFresh V.model V.means result }
+    ensures promise { CoreOpens V.model V.means result }
 {
     wipe(cells);
     Core {

@@ -5,25 +5,24 @@ ghost use Rattle.shelves.specs.Calls.{about, named};
 ghost use Rattle.shelves.specs.Held.{call_of};
 ghost use Rattle.shelves.specs.Questions.{Distinct, LawfulArc, UpToNamed, Begins};
 ghost use Rattle.shelves.specs.State.{empty_shelf};
-ghost use Rattle.shelves.specs.Tables.{shelves_of, steps_of, arcs_of};
+ghost use Rattle.shelves.specs.Tables.{shelves_of};
 
-use crate::arcs::{complete, lawful, light};
+use crate::arcs::{complete, lawful, light, mild};
 use crate::call::Call;
 use crate::tables::{Arcs, Shelves, Steps};
-use algebra::label::MOST_CYCLES;
 
 // Is each shelf number at most 15?
 pub fn numbered(call: Call) -> bool
     ensures { Decides result (AllByRecursion (λ k. k ≤ 15) (named (call_of call.entry))) }
 {
     match call {
-        Call::Pair { first, second, .. } => (first <= 15) & (second <= 15),
-        Call::Node { shelf, .. } => shelf <= 15,
-        Call::Pause { shelf, .. } => shelf <= 15,
-        Call::Table { shelf, .. } => shelf <= 15,
-        Call::Loop { shelf } => shelf <= 15,
-        Call::Clear { shelf } => shelf <= 15,
-        Call::Report { shelf } => shelf <= 15,
+        Call::Pair { first, second, .. } => first <= 15 && second <= 15,
+        Call::Node { shelf, .. }
+        | Call::Pause { shelf, .. }
+        | Call::Table { shelf, .. }
+        | Call::Loop { shelf }
+        | Call::Clear { shelf }
+        | Call::Report { shelf } => shelf <= 15,
     }
 }
 
@@ -33,12 +32,7 @@ pub fn apart(call: Call) -> bool
 {
     match call {
         Call::Pair { first, second, .. } => first != second,
-        Call::Node { .. } => true,
-        Call::Pause { .. } => true,
-        Call::Table { .. } => true,
-        Call::Loop { .. } => true,
-        Call::Clear { .. } => true,
-        Call::Report { .. } => true,
+        _ => true,
     }
 }
 
@@ -54,13 +48,10 @@ pub fn vacant(shelves: &Shelves, call: Call) -> bool
     ensures { Decides result (AllByRecursion (λ k. is_some (slice_index_or (shelves_of shelves.now) k empty_shelf).step ≡ false) (about (call_of call.entry)).fresh) }
 {
     match call {
-        Call::Node { shelf, .. } => !filled(shelves, shelf),
-        Call::Pause { shelf, .. } => !filled(shelves, shelf),
-        Call::Table { shelf, .. } => !filled(shelves, shelf),
-        Call::Pair { .. } => true,
-        Call::Loop { .. } => true,
-        Call::Clear { .. } => true,
-        Call::Report { .. } => true,
+        Call::Node { shelf, .. } | Call::Pause { shelf, .. } | Call::Table { shelf, .. } => {
+            !filled(shelves, shelf)
+        }
+        _ => true,
     }
 }
 
@@ -69,32 +60,21 @@ pub fn occupied(shelves: &Shelves, call: Call) -> bool
     ensures { Decides result (AllByRecursion (λ k. is_some (slice_index_or (shelves_of shelves.now) k empty_shelf).step ≡ true) (about (call_of call.entry)).used) }
 {
     match call {
-        Call::Node { .. } => true,
-        Call::Pause { .. } => true,
-        Call::Table { .. } => true,
-        Call::Pair { first, second, .. } => {
-            let a = filled(shelves, first);
-            let b = filled(shelves, second);
-            a & b
+        Call::Pair { first, second, .. } => filled(shelves, first) && filled(shelves, second),
+        Call::Loop { shelf } | Call::Clear { shelf } | Call::Report { shelf } => {
+            filled(shelves, shelf)
         }
-        Call::Loop { shelf } => filled(shelves, shelf),
-        Call::Clear { shelf } => filled(shelves, shelf),
-        Call::Report { shelf } => filled(shelves, shelf),
+        _ => true,
     }
 }
 
 // Are fewer than 512 steps recorded?
 pub fn recordable(steps: &Steps, call: Call) -> bool
-    ensures { Decides result ((about (call_of call.entry)).builds ≡ true → length (steps_of steps.now) < 512) }
+    ensures { Decides result ((about (call_of call.entry)).builds ≡ true → length steps.now.items < 512) }
 {
     match call {
-        Call::Clear { .. } => true,
-        Call::Report { .. } => true,
-        Call::Node { .. } => steps.count < 512,
-        Call::Pause { .. } => steps.count < 512,
-        Call::Table { .. } => steps.count < 512,
-        Call::Pair { .. } => steps.count < 512,
-        Call::Loop { .. } => steps.count < 512,
+        Call::Clear { .. } | Call::Report { .. } => true,
+        _ => !steps.is_full(),
     }
 }
 
@@ -103,13 +83,9 @@ pub fn measured(call: Call) -> bool
     ensures { Decides result (AllByRecursion (λ l. l.cycles ≤ 1073741823) (about (call_of call.entry)).labels) }
 {
     match call {
-        Call::Node { label, .. } => label.cycles <= MOST_CYCLES,
-        Call::Pause { label, .. } => label.cycles <= MOST_CYCLES,
+        Call::Node { label, .. } | Call::Pause { label, .. } => mild(label),
         Call::Table { arcs, .. } => light(arcs),
-        Call::Pair { .. } => true,
-        Call::Loop { .. } => true,
-        Call::Clear { .. } => true,
-        Call::Report { .. } => true,
+        _ => true,
     }
 }
 
@@ -118,16 +94,8 @@ pub fn tabular(call: Call) -> bool
     ensures { Decides result (AllByRecursion (λ arcs. (1 ≤ length arcs) × (length arcs ≤ 512) × AllByRecursion LawfulArc arcs) (about (call_of call.entry)).tables) }
 {
     match call {
-        Call::Table { arcs, .. } => {
-            let fair = lawful(arcs);
-            (1 <= arcs.len()) & (arcs.len() <= 512) & fair
-        }
-        Call::Node { .. } => true,
-        Call::Pause { .. } => true,
-        Call::Pair { .. } => true,
-        Call::Loop { .. } => true,
-        Call::Clear { .. } => true,
-        Call::Report { .. } => true,
+        Call::Table { arcs, .. } => !arcs.is_empty() && arcs.len() <= 512 && lawful(arcs),
+        _ => true,
     }
 }
 
@@ -137,26 +105,16 @@ pub fn going(call: Call) -> bool
 {
     match call {
         Call::Table { arcs, .. } => complete(arcs),
-        Call::Node { .. } => true,
-        Call::Pause { .. } => true,
-        Call::Pair { .. } => true,
-        Call::Loop { .. } => true,
-        Call::Clear { .. } => true,
-        Call::Report { .. } => true,
+        _ => true,
     }
 }
 
 // Do a table's arcs fit with those recorded?
 pub fn roomy(recorded: &Arcs, call: Call) -> bool
-    ensures { Decides result (AllByRecursion (λ arcs. length (arcs_of recorded.now) + length arcs ≤ 512) (about (call_of call.entry)).tables) }
+    ensures { Decides result (AllByRecursion (λ arcs. length recorded.now.items + length arcs ≤ 512) (about (call_of call.entry)).tables) }
 {
     match call {
-        Call::Table { arcs, .. } => arcs.len() <= 512 - recorded.count,
-        Call::Node { .. } => true,
-        Call::Pause { .. } => true,
-        Call::Pair { .. } => true,
-        Call::Loop { .. } => true,
-        Call::Clear { .. } => true,
-        Call::Report { .. } => true,
+        Call::Table { arcs, .. } => arcs.len() <= recorded.remaining_capacity(),
+        _ => true,
     }
 }

@@ -1,14 +1,11 @@
-// Recording: an element is written through its table's own method.
-ghost use Rattle.std.specs.Prelude.{◌≡◌, ◌+◌, ◌<◌, ◌≤◌, [], ◌∷◌, ◌++◌, length, replicate, slice_index_or, slice_set};
+// Shelves as they are read and written.
+ghost use Rattle.std.specs.Prelude.{◌≡◌, ◌<◌, replicate, slice_index_or, slice_set};
 ghost use Rattle.shelves.specs.State.{empty_shelf};
-ghost use Rattle.shelves.specs.Tables.{shelf_of, shelves_of, steps_of, arcs_of};
+ghost use Rattle.shelves.specs.Tables.{shelf_of, shelves_of};
 
 use crate::shelf::Shelf;
-use crate::tables::{Arcs, Shelves, Steps};
-use algebra::arc::Arc;
-use algebra::label::Label;
+use crate::tables::Shelves;
 use rows::shape::Shape;
-use runs::step::Step;
 
 impl Shelf {
     // No step, transient 0 and period 1.
@@ -56,62 +53,5 @@ impl Shelves {
         ensures { shelves_of self.new ≡ slice_set (shelves_of self.old) k (shelf_of shelf) }
     {
         self.items[k] = shelf;
-    }
-}
-
-impl Steps {
-    pub fn new() -> Steps
-        ensures { steps_of result ≡ [] }
-    {
-        Steps {
-            items: [Step::Repeat { of: 0 }; 512],
-            count: 0,
-        }
-    }
-
-    pub fn push(&mut self, step: Step)
-        requires { self.old.count < 512 }
-        ensures items { steps_of self.new ≡ steps_of self.old ++ step ∷ [] }
-        ensures count { self.new.count ≡ self.old.count + 1 }
-    {
-        self.items[self.count] = step;
-        self.count += 1;
-    }
-}
-
-impl Arcs {
-    pub fn new() -> Arcs
-        ensures { arcs_of result ≡ [] }
-    {
-        let arc = Arc {
-            from: 0,
-            to: 0,
-            label: Label {
-                cycles: 0,
-                ports: 0,
-            },
-        };
-        Arcs {
-            items: [arc; 512],
-            count: 0,
-        }
-    }
-
-    pub fn push(&mut self, arc: Arc)
-        requires { self.old.count < 512 }
-        ensures items { arcs_of self.new ≡ arcs_of self.old ++ arc ∷ [] }
-        ensures count { self.new.count ≡ self.old.count + 1 }
-    {
-        self.items[self.count] = arc;
-        self.count += 1;
-    }
-
-    pub fn extend(&mut self, arcs: &[Arc])
-        requires { self.old.count + length arcs.now ≤ 512 }
-        ensures { arcs_of self.new ≡ arcs_of self.old ++ arcs.now }
-    {
-        for arc in arcs {
-            self.push(*arc);
-        }
     }
 }

@@ -1,55 +1,55 @@
 // Refusals: the questions of a rack that said no.
 ghost use Rattle.std.specs.Prelude.{◌≡◌};
 ghost use Rattle.shelves.specs.Refusals.{number_of};
+ghost use Rattle.shelves.specs.Stops.{stop_of};
+
+use rows::outcome::Unkept;
 
 #[derive(Clone, Copy, PartialEq, Eq, Debug)]
 pub enum Refusal {
     // fewer than 4,096 cells are lent
-    FewCells,
+    FewCells = 1,
     // a shelf number is past 15
-    NoShelf,
+    NoShelf = 2,
     // two named shelves are one
-    SameShelf,
+    SameShelf = 3,
     // a leaf's shelf is filled already
-    ShelfTaken,
+    ShelfTaken = 4,
     // a named shelf is empty
-    ShelfEmpty,
+    ShelfEmpty = 5,
     // a label has more cycles than the limit
-    ManyCycles,
+    ManyCycles = 6,
     // a table has no arc, too many, or one from or to no state
-    BadArcs,
+    BadArcs = 7,
     // a state of a table begins no arc
-    StateWithoutArc,
+    StateWithoutArc = 8,
     // as many steps are recorded as there is room for
-    StepsFull,
+    StepsFull = 9,
     // a table's arcs do not fit with those recorded
-    ArcsFull,
+    ArcsFull = 10,
     // a loop's piece may leave at once
-    LeavesAtOnce,
+    LeavesAtOnce = 11,
     // none of situations 0 to 1,023 equals an earlier one
-    NeverRepeats,
+    NeverRepeats = 12,
     // transient and period come to more than 64
-    TooLong,
+    TooLong = 13,
 }
 
 impl Refusal {
     pub fn number(self) -> u8
         ensures { result ≡ number_of self }
     {
-        match self {
-            Refusal::FewCells => 1,
-            Refusal::NoShelf => 2,
-            Refusal::SameShelf => 3,
-            Refusal::ShelfTaken => 4,
-            Refusal::ShelfEmpty => 5,
-            Refusal::ManyCycles => 6,
-            Refusal::BadArcs => 7,
-            Refusal::StateWithoutArc => 8,
-            Refusal::StepsFull => 9,
-            Refusal::ArcsFull => 10,
-            Refusal::LeavesAtOnce => 11,
-            Refusal::NeverRepeats => 12,
-            Refusal::TooLong => 13,
+        self as u8
+    }
+}
+
+impl From<Unkept> for Refusal {
+    ghost from_gives = { λ no refusal. refusal ≡ stop_of no };
+
+    fn from(no: Unkept) -> Refusal {
+        match no {
+            Unkept::NeverSoon => Refusal::NeverRepeats,
+            Unkept::TooLong => Refusal::TooLong,
         }
     }
 }

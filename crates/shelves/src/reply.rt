@@ -1,11 +1,12 @@
-// What a call answers.
+// What a call answers: what it did, or the refusal.
 use crate::refusal::Refusal;
 use crate::report::Report;
 
-#[derive(Clone, Copy)]
-pub enum Reply<V> {
+#[derive(Clone, Copy, PartialEq, Eq, Debug)]
+pub enum Answer<V> {
     // the number of the first situation that equals an earlier one, or 0 where nothing is unrolled
     Accepted(usize),
     Reported(Report<V>),
-    Refused(Refusal),
 }
+
+pub type Reply<V> = Result<Answer<V>, Refusal>;

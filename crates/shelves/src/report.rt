@@ -1,6 +1,6 @@
 // What report gives: the figure, None where it is absent; the first tick that reaches it, None where the algebra does
 // not choose; and the shape of the rows.
-#[derive(Clone, Copy)]
+#[derive(Clone, Copy, PartialEq, Eq, Debug)]
 pub struct Report<V> {
     pub figure: Option<V>,
     pub tick: Option<usize>,

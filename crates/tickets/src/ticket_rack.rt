@@ -1,11 +1,13 @@
 // A rack whose calls take tickets. At another rack a ticket is only a number, so every question is asked all the same.
-ghost use Rattle.std.specs.Prelude.{◌≡◌, ℕ, ◌<◌, ◌≤◌, min, [], map, length, take, drop, IfOk, IfErr, None as absent, MatchResult, OnErr, slice_index_or};
+ghost use Rattle.std.specs.Prelude.{◌≡◌, ℕ, ◌<◌, ◌≤◌, min, [], ◌∷◌, map, length, take, drop, IfOk, IfErr, None as absent, MatchResult, OnErr, slice_index_or};
 ghost use Rattle.shelves.specs.declared.call.Pairing.TheVariants as kind;
 ghost use Rattle.shelves.specs.Calls.{node as node_call, pause as pause_call, table as table_call, pair as pair_call, loop as loop_call, clear as clear_call, report as report_call};
+ghost use Rattle.shelves.specs.Changing.{Changing};
+ghost use Rattle.shelves.specs.Cores.{CoreFresh, CoreOpens, CoreAnswers, CoreAnswersAll};
+ghost use Rattle.shelves.specs.Filling.{filled_by};
 ghost use Rattle.shelves.specs.Held.{state_of, call_of};
-ghost use Rattle.shelves.specs.Promise.{Fresh, Made, Kept, Answers, AnswersAll};
-ghost use Rattle.shelves.specs.Told.{reply_of, shown};
-ghost use Rattle.tickets.specs.Tickets.{leaf_reply, loop_reply, clear_reply, pair_reply, Names};
+ghost use Rattle.shelves.specs.Told.{shown};
+ghost use Rattle.tickets.specs.Tickets.{loop_reply, clear_reply, NamesIn, LeafGives, PairGives};
 
 use crate::ticket::{Back, BothBack, Built, Ticket};
 use algebra::algebra::Algebra;
@@ -26,65 +28,53 @@ pub struct TicketRack<'a, V: Algebra> {
     core: Core<'a, V>,
 }
 
+// Callers name each call by its own function; what they share is `leaf`, `pair` and the crate below.
 impl<'a, V: Algebra> TicketRack<'a, V> {
     // A new rack over lent cells, after `enough` said yes of them. The history begins.
     pub fn open(cells: &'a mut [Option<V>]) -> TicketRack<'a, V>
         requires { 4096 ≤ length cells.old }
         ensures blank { (j : ℕ) → j < 4096 → slice_index_or result.core.cells.now j absent ≡ absent }
         ensures past { drop 4096 result.core.cells.now ≡ drop 4096 cells.old }
-        ensures fresh { Fresh V.model (state_of V.model V.means result.core) }
-        ensures promise { Made V.model [] (state_of V.model V.means result.core) × Kept V.model [] (state_of V.model V.means result.core) }
+        ensures fresh { CoreFresh V.model V.means result.core }
+        ensures promise { CoreOpens V.model V.means result.core }
     {
         TicketRack { core: open(cells) }
     }
 
-    pub fn node(&mut self, shelf: u8, label: Label) -> Result<Built, Refusal>
-        ensures answers { Answers V.model (node_call shelf label) (leaf_reply V.model result) (state_of V.model V.means self.old.core) (state_of V.model V.means self.new.core) }
-        ensures ticket { IfOk result (λ built. built.ticket.shelf ≡ shelf) }
-        ensures names { IfOk result (λ built. Names (state_of V.model V.means self.new.core) built.ticket) }
+    // The ticket of a new leaf names the shelf that the call fills.
+    fn leaf(&mut self, call: Call, shelf: u8) -> Result<Built, Refusal>
+        requires leaf { Changing (call_of call) }
+        requires fills { filled_by (call_of call) ≡ shelf ∷ [] }
+        ensures { LeafGives V.model V.means (call_of call.entry) shelf result self.old.core self.new.core }
     {
-        match change(&mut self.core, Call::node(shelf, label)) {
-            Ok(number) => Ok(Built {
-                ticket: Ticket { shelf },
-                number,
-            }),
-            Err(found) => Err(found),
-        }
+        let number = change(&mut self.core, call)?;
+        Ok(Built {
+            ticket: Ticket { shelf },
+            number,
+        })
+    }
+
+    pub fn node(&mut self, shelf: u8, label: Label) -> Result<Built, Refusal>
+        ensures { LeafGives V.model V.means (node_call shelf label) shelf result self.old.core self.new.core }
+    {
+        self.leaf(Call::node(shelf, label), shelf)
     }
 
     pub fn pause(&mut self, shelf: u8, label: Label) -> Result<Built, Refusal>
-        ensures answers { Answers V.model (pause_call shelf label) (leaf_reply V.model result) (state_of V.model V.means self.old.core) (state_of V.model V.means self.new.core) }
-        ensures ticket { IfOk result (λ built. built.ticket.shelf ≡ shelf) }
-        ensures names { IfOk result (λ built. Names (state_of V.model V.means self.new.core) built.ticket) }
+        ensures { LeafGives V.model V.means (pause_call shelf label) shelf result self.old.core self.new.core }
     {
-        match change(&mut self.core, Call::pause(shelf, label)) {
-            Ok(number) => Ok(Built {
-                ticket: Ticket { shelf },
-                number,
-            }),
-            Err(found) => Err(found),
-        }
+        self.leaf(Call::pause(shelf, label), shelf)
     }
 
     pub fn table(&mut self, shelf: u8, arcs: &[Arc]) -> Result<Built, Refusal>
-        ensures answers { Answers V.model (table_call shelf arcs.now) (leaf_reply V.model result) (state_of V.model V.means self.old.core) (state_of V.model V.means self.new.core) }
-        ensures ticket { IfOk result (λ built. built.ticket.shelf ≡ shelf) }
-        ensures names { IfOk result (λ built. Names (state_of V.model V.means self.new.core) built.ticket) }
+        ensures { LeafGives V.model V.means (table_call shelf arcs.now) shelf result self.old.core self.new.core }
     {
-        match change(&mut self.core, Call::table(shelf, arcs)) {
-            Ok(number) => Ok(Built {
-                ticket: Ticket { shelf },
-                number,
-            }),
-            Err(found) => Err(found),
-        }
+        self.leaf(Call::table(shelf, arcs), shelf)
     }
 
     // Spends the second ticket; the first is then the result's. Refused, it hands both back.
     fn pair(&mut self, kind: Pairing, first: Ticket, second: Ticket) -> Result<Built, BothBack>
-        ensures answers { Answers V.model (pair_call kind first.shelf second.shelf) (pair_reply V.model result) (state_of V.model V.means self.old.core) (state_of V.model V.means self.new.core) }
-        ensures ticket { MatchResult result (λ built. built.ticket ≡ first) (λ back. (back.first ≡ first) × (back.second ≡ second)) }
-        ensures names { IfOk result (λ built. Names (state_of V.model V.means self.new.core) built.ticket) }
+        ensures { PairGives V.model V.means kind first second result self.old.core self.new.core }
     {
         let call = Call::pair(kind, first.shelf, second.shelf);
         match change(&mut self.core, call) {
@@ -100,42 +90,34 @@ impl<'a, V: Algebra> TicketRack<'a, V> {
     }
 
     pub fn choice(&mut self, first: Ticket, second: Ticket) -> Result<Built, BothBack>
-        ensures answers { Answers V.model (pair_call kind.Choice first.shelf second.shelf) (pair_reply V.model result) (state_of V.model V.means self.old.core) (state_of V.model V.means self.new.core) }
-        ensures ticket { MatchResult result (λ built. built.ticket ≡ first) (λ back. (back.first ≡ first) × (back.second ≡ second)) }
-        ensures names { IfOk result (λ built. Names (state_of V.model V.means self.new.core) built.ticket) }
+        ensures { PairGives V.model V.means kind.Choice first second result self.old.core self.new.core }
     {
         self.pair(Pairing::Choice, first, second)
     }
 
     pub fn sequence(&mut self, first: Ticket, second: Ticket) -> Result<Built, BothBack>
-        ensures answers { Answers V.model (pair_call kind.Sequence first.shelf second.shelf) (pair_reply V.model result) (state_of V.model V.means self.old.core) (state_of V.model V.means self.new.core) }
-        ensures ticket { MatchResult result (λ built. built.ticket ≡ first) (λ back. (back.first ≡ first) × (back.second ≡ second)) }
-        ensures names { IfOk result (λ built. Names (state_of V.model V.means self.new.core) built.ticket) }
+        ensures { PairGives V.model V.means kind.Sequence first second result self.old.core self.new.core }
     {
         self.pair(Pairing::Sequence, first, second)
     }
 
     pub fn fork(&mut self, first: Ticket, second: Ticket) -> Result<Built, BothBack>
-        ensures answers { Answers V.model (pair_call kind.Fork first.shelf second.shelf) (pair_reply V.model result) (state_of V.model V.means self.old.core) (state_of V.model V.means self.new.core) }
-        ensures ticket { MatchResult result (λ built. built.ticket ≡ first) (λ back. (back.first ≡ first) × (back.second ≡ second)) }
-        ensures names { IfOk result (λ built. Names (state_of V.model V.means self.new.core) built.ticket) }
+        ensures { PairGives V.model V.means kind.Fork first second result self.old.core self.new.core }
     {
         self.pair(Pairing::Fork, first, second)
     }
 
     pub fn abort(&mut self, first: Ticket, second: Ticket) -> Result<Built, BothBack>
-        ensures answers { Answers V.model (pair_call kind.Abort first.shelf second.shelf) (pair_reply V.model result) (state_of V.model V.means self.old.core) (state_of V.model V.means self.new.core) }
-        ensures ticket { MatchResult result (λ built. built.ticket ≡ first) (λ back. (back.first ≡ first) × (back.second ≡ second)) }
-        ensures names { IfOk result (λ built. Names (state_of V.model V.means self.new.core) built.ticket) }
+        ensures { PairGives V.model V.means kind.Abort first second result self.old.core self.new.core }
     {
         self.pair(Pairing::Abort, first, second)
     }
 
     // The call loop, whose name is a word of the language.
     pub fn repeat(&mut self, ticket: Ticket) -> Result<Built, Back>
-        ensures answers { Answers V.model (loop_call ticket.shelf) (loop_reply V.model result) (state_of V.model V.means self.old.core) (state_of V.model V.means self.new.core) }
+        ensures answers { CoreAnswers V.model V.means (loop_call ticket.shelf) (loop_reply V.model result) self.old.core self.new.core }
         ensures ticket { MatchResult result (λ built. built.ticket ≡ ticket) (λ back. back.ticket ≡ ticket) }
-        ensures names { IfOk result (λ built. Names (state_of V.model V.means self.new.core) built.ticket) }
+        ensures names { IfOk result (λ built. NamesIn V.model V.means self.new.core built.ticket) }
     {
         match change(&mut self.core, Call::repeat(ticket.shelf)) {
             Ok(number) => Ok(Built { ticket, number }),
@@ -145,9 +127,9 @@ impl<'a, V: Algebra> TicketRack<'a, V> {
 
     // Spends the ticket.
     pub fn clear(&mut self, ticket: Ticket) -> Result<usize, Back>
-        ensures answers { Answers V.model (clear_call ticket.shelf) (clear_reply V.model result) (state_of V.model V.means self.old.core) (state_of V.model V.means self.new.core) }
+        ensures answers { CoreAnswers V.model V.means (clear_call ticket.shelf) (clear_reply V.model result) self.old.core self.new.core }
         ensures ticket { IfErr result (λ back. back.ticket ≡ ticket) }
-        ensures cleared { Names (state_of V.model V.means self.old.core) ticket → OnErr result (⊥) }
+        ensures cleared { NamesIn V.model V.means self.old.core ticket → OnErr result (⊥) }
     {
         match change(&mut self.core, Call::clear(ticket.shelf)) {
             Ok(number) => {
@@ -160,7 +142,7 @@ impl<'a, V: Algebra> TicketRack<'a, V> {
 
     // Report only looks, at the rack and at the ticket.
     pub fn report(&self, ticket: &Ticket) -> Result<Report<V>, Refusal>
-        ensures { Answers V.model (report_call ticket.now.shelf) (shown V.model V.means result) (state_of V.model V.means self.now.core) (state_of V.model V.means self.now.core) }
+        ensures { CoreAnswers V.model V.means (report_call ticket.now.shelf) (shown V.model V.means result) self.now.core self.now.core }
     {
         look(&self.core, ticket.shelf)
     }
@@ -169,7 +151,7 @@ impl<'a, V: Algebra> TicketRack<'a, V> {
     pub fn run(&mut self, calls: &[Call], replies: &mut [Reply<V>]) -> usize
         ensures count { result ≡ min (length calls.now) (length replies.old) }
         ensures rest { drop result replies.new ≡ drop result replies.old }
-        ensures answers { AnswersAll V.model (map call_of (take result calls.now)) (map (reply_of V.model V.means) (take result replies.new)) (state_of V.model V.means self.old.core) (state_of V.model V.means self.new.core) }
+        ensures answers { CoreAnswersAll V.model V.means (take result calls.now) (take result replies.new) self.old.core self.new.core }
     {
         answer_all(&mut self.core, calls, replies)
     }

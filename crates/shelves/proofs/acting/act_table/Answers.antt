@@ -1,4 +1,5 @@
 use Rattle.std.proofs.Common.{[], ◌∷◌}
+use Rattle.std.proofs.lemmas.Result.{err_from_is_err_and}
 use Rattle.rows.specs.Rules.Table as table_rule
 use Rattle.shelves.specs.declared.refusal.Refusal.TheVariants.{NeverRepeats, TooLong}
 use Rattle.shelves.specs.Calls.{table}
@@ -8,9 +9,11 @@ use Rattle.shelves.specs.Refusals.{early}
 use Rattle.shelves.proofs.Asking.{no_after, stop_no}
 use Rattle.shelves.proofs.acting.act_table.Goals as goal
 
-pub returns-in-Err : goal.returns-in-Err
-returns-in-Err g c =
+pub returns-in_err-number : goal.returns-in_err-number
+returns-in_err-number g c =
     let m = g.V.Algebra.model in
     let s = state_of m g.V.Algebra.means c.args.core.now in
-    let found = c.in-Err.ensures in
-    (no_after (Yes m s (table c.args.shelf c.args.arcs.now)) early (NeverRepeats ∷ TooLong ∷ []) c.in-Err.found c.requires (stop_no (table_rule.table m c.args.arcs.now) c.in-Err.found found.0), found.1)
+    let p = err_from_is_err_and c.from_residual.result c.from_residual.ensures.1 in
+    let no = c.in_err-number.field-0.0 in
+    let found = c.in_err-number.ensures in
+    rw (p.1, p.2) (no_after (Yes m s (table c.args.shelf c.args.arcs.now)) early (NeverRepeats ∷ TooLong ∷ []) no c.requires (stop_no (table_rule.table m c.args.arcs.now) no found.0), found.1)

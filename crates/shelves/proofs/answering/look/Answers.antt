@@ -1,4 +1,5 @@
 use Rattle.std.proofs.Common.{[], ◌∷◌, refl, subst}
+use Rattle.std.proofs.lemmas.Result.{err_from_is_err_and}
 use Rattle.shelves.specs.declared.refusal.Refusal.TheVariants.{NeverRepeats, TooLong}
 use Rattle.shelves.specs.Calls.{report}
 use Rattle.shelves.specs.Held.{state_of}
@@ -9,13 +10,15 @@ use Rattle.shelves.proofs.Asking.{no_before}
 use Rattle.shelves.proofs.Histories.{answers}
 use Rattle.shelves.proofs.answering.look.Goals as goal
 
-pub returns-in-Some : goal.returns-in-Some
-returns-in-Some g c =
+pub returns-in_err-first_no : goal.returns-in_err-first_no
+returns-in_err-first_no g c =
     let m = g.V.Algebra.model in
     let s = state_of m g.V.Algebra.means c.args.core.now in
-    let asked = subst (λ call. FirstNo (Yes m s call) early c.in-Some.found) c.report.ensures c.in-Some.ensures in
-    let first : FirstNo (Yes m s (report c.args.shelf)) order c.in-Some.found = no_before (Yes m s (report c.args.shelf)) early (NeverRepeats ∷ TooLong ∷ []) c.in-Some.found asked in
-    answers m (laws_of g.world g.met.V.Algebra) g.met.V.Algebra.chosen (first, refl)
+    let p = err_from_is_err_and c.from_residual.result c.from_residual.ensures.1 in
+    let no = c.in_err-first_no.field-0.0 in
+    let asked = subst (λ call. FirstNo (Yes m s call) early no) c.report.ensures c.in_err-first_no.ensures in
+    let first : FirstNo (Yes m s (report c.args.shelf)) order no = no_before (Yes m s (report c.args.shelf)) early (NeverRepeats ∷ TooLong ∷ []) no asked in
+    rw (p.1, p.2) (answers m (laws_of g.world g.met.V.Algebra) g.met.V.Algebra.chosen (first, refl))
 
-pub returns-in-None : goal.returns-in-None
-returns-in-None g c = answers g.V.Algebra.model (laws_of g.world g.met.V.Algebra) g.met.V.Algebra.chosen c.shelf_report.ensures
+pub returns : goal.returns
+returns g c = answers g.V.Algebra.model (laws_of g.world g.met.V.Algebra) g.met.V.Algebra.chosen c.shelf_report.ensures

@@ -1,18 +1,14 @@
-use Rattle.std.proofs.Common.{refl, arith, below_more}
-use Rattle.std.proofs.lemmas.Bool.{false≢true}
+use Rattle.std.proofs.Common.{rules, refl, arith}
+use Rattle.std.proofs.lemmas.Bool.Decides.{Decides-like}
+use Rattle.std.proofs.lemmas.Iterator.{cases_from_all, YieldsList-from_range}
 use Rattle.shelves.specs.Questions.{Begins}
-use Rattle.shelves.proofs.Elements.{passes}
+use Rattle.shelves.proofs.Elements.{below}
 use Rattle.shelves.proofs.arcs.complete.Goals as goal
-
-pub loop-q-preserved : goal.loop-q-preserved
-loop-q-preserved c = below_more (Begins c.args.arcs.now) c.loop-q.q c.loop-q.invariant (c.if-not-begun.ensures.0 refl)
-
-pub returns-then-not-begun : goal.returns-then-not-begun
-returns-then-not-begun c = (
-  λ e. absurd (false≢true e),
-  λ all. c.if-not-begun.ensures.1 (all c.loop-q.q ((c.states-q-end.ensures c.loop-q.q).0 c.loop-q-test.true)),
-)
+use borrow.Author.Tests.{tests}
 
 pub returns : goal.returns
 returns c =
-    passes (λ q n. let few = (c.states-q-end.ensures q).1 n in c.loop-q.invariant q (omega (arith, few)))
+    let begins = Begins c.args.arcs.now in
+    let n = c.states.result in
+    let asked = cases_from_all _ _ c.all.result begins (λ q. begins q → ⊥) c.all.ensures.ran (YieldsList-from_range 0 n n refl (omega arith)) (λ x q k. search (rules, tests)) (λ x q k. search (rules, tests)) in
+    Decides-like c.all.result (λ all q h. all q ((c.states.ensures q).1 h)) (λ all q less. all q ((c.states.ensures q).0 less)) (below begins n c.all.result asked)

@@ -1,4 +1,5 @@
 use Rattle.std.proofs.Common.{List, get_or, take, None, sym, refl, ap, ◌∙◌, subst}
+use Rattle.std.proofs.lemmas.Result.{err_from_is_err_and}
 use Rattle.std.proofs.lemmas.List.{append-nil}
 use Rattle.algebra.specs.Coefficients.{Coef}
 use Rattle.rows.specs.Outcomes.{Refused}
@@ -6,27 +7,26 @@ use Rattle.rows.specs.Pieces.{meanings}
 use Rattle.rows.specs.Rules.Rule.{rows}
 use Rattle.rows.specs.Unrolled.{Keeps, Unrolls}
 use Rattle.shelves.specs.Effects.{OfShelf}
-use Rattle.shelves.specs.Stops.{Stopped}
-use Rattle.shelves.specs.Tables.{shelves_of, steps_of, arcs_of}
+use Rattle.shelves.specs.Tables.{shelves_of}
 use Rattle.shelves.proofs.LeafRows.{apart}
 use Rattle.shelves.proofs.Stopping.{stopped}
 use Rattle.shelves.proofs.Unchanged.{others_mean}
 use Rattle.shelves.proofs.building.build.Goals as goal
 
-pub returns-in-Ok : goal.returns-in-Ok
-returns-in-Ok g c =
+pub returns : goal.returns
+returns g c =
     let m = g.V.Algebra.model in
     let f = g.V.Algebra.means in
     let over = λ (cs : List (Coef m)). g.R.RowRule.works c.args.rule.now m cs in
     let core = c.args.core.now in
     let after = c.settle.new.core in
     let k = c.args.k in
-    let u = c.in-Ok.unrolled in
+    let u = c.in_ok-unrolled.unrolled in
     let t = u.shape.transient in
     let d = u.shape.period in
     let was = ap (λ r. r.now) c.replace-cells.ensures.value in
     let is = ap (λ r. r.now) c.settle.ensures.cells in
-    let unrolled = subst (λ xs. Unrolls (over (meanings f (take 2048 xs))) u.reply k t d (meanings f (take 2048 c.unroll-kept.new.cells))) was c.in-Ok.ensures.cases in
+    let unrolled = subst (λ xs. Unrolls (over (meanings f (take 2048 xs))) u.reply k t d (meanings f (take 2048 c.unroll-kept.new.cells))) was c.in_ok-unrolled.ensures.cases in
     record {
       does = (
         (unrolled.soon, unrolled.first),
@@ -36,29 +36,31 @@ returns-in-Ok g c =
           short = u.shape.most;
           keeps = subst (λ xs. Keeps m (rows (over (meanings f (take 2048 core.cells.now)))) k t d (meanings f (take 2048 xs))) (sym is) unrolled.keeps;
           others = others_mean f (OfShelf k) core.cells.now after.cells.now
-              (λ j less out. ap (λ xs. get_or xs j None) is ∙ c.in-Ok.ensures.others j less (apart k j out) ∙ ap (λ xs. get_or xs j None) was);
+              (λ j less out. ap (λ xs. get_or xs j None) is ∙ c.in_ok-unrolled.ensures.others j less (apart k j out) ∙ ap (λ xs. get_or xs j None) was);
           shelves = c.settle.ensures.shelves;
           steps = c.settle.ensures.steps;
-          arcs = ap arcs_of c.settle.ensures.arcs ∙ sym (append-nil (arcs_of core.arcs));
+          arcs = ap (λ a. a.items) c.settle.ensures.arcs ∙ sym (append-nil core.arcs.items);
         },
       );
       arcs = c.settle.ensures.arcs;
     }
 
-pub returns-in-Err : goal.returns-in-Err
-returns-in-Err g c =
+pub returns-in_err-unrolled : goal.returns-in_err-unrolled
+returns-in_err-unrolled g c =
     let m = g.V.Algebra.model in
     let f = g.V.Algebra.means in
     let over = λ (cs : List (Coef m)). g.R.RowRule.works c.args.rule.now m cs in
     let core = c.args.core.now in
+    let p = err_from_is_err_and c.from_residual.result c.from_residual.ensures.1 in
+    let no = c.in_err-unrolled.field-0.0 in
     let was = ap (λ r. r.now) c.replace-cells.ensures.value in
-    let refusal = c.in-Err.ensures.cases in
-    let here = subst (λ xs. Refused (over (meanings f (take 2048 xs))) c.in-Err.found) was refusal.0 in
+    let refusal = c.in_err-unrolled.ensures.cases in
+    let here = subst (λ xs. Refused (over (meanings f (take 2048 xs))) no) was refusal.0 in
     let same = ap (meanings f) (refusal.1 ∙ ap (take 2048) was) in
     record {
-      does = (
-        subst (Stopped (over (meanings f (take 2048 core.cells.now)))) (sym c.stop.ensures) (stopped (over (meanings f (take 2048 core.cells.now))) c.in-Err.found here),
-        λ i. record { cells = same i; shelves = shelves_of core.shelves; steps = steps_of core.steps; arcs = arcs_of core.arcs },
+      does = rw (p.1, p.2) (
+        stopped (over (meanings f (take 2048 core.cells.now))) no here,
+        λ i. record { cells = same i; shelves = shelves_of core.shelves; steps = core.steps.items; arcs = core.arcs.items },
       );
       arcs = refl;
     }

@@ -3,7 +3,6 @@ use Rattle.std.proofs.lemmas.List.{append-nil}
 use Rattle.rows.specs.Pieces.{meanings}
 use Rattle.rows.specs.Unrolled.{Keeps}
 use Rattle.shelves.specs.Effects.{OfShelf, pause_row}
-use Rattle.shelves.specs.Tables.{arcs_of}
 use Rattle.shelves.proofs.Unchanged.{others_mean}
 use Rattle.shelves.proofs.building.put_pause.Goals as goal
 
@@ -24,5 +23,5 @@ returns g c =
           (λ j less out. ap (λ xs. get_or xs j None) is ∙ c.write_pause.ensures.others j less out ∙ ap (λ xs. get_or xs j None) was);
       shelves = c.settle.ensures.shelves;
       steps = c.settle.ensures.steps;
-      arcs = ap arcs_of c.settle.ensures.arcs ∙ sym (append-nil (arcs_of core.arcs));
+      arcs = ap (λ a. a.items) c.settle.ensures.arcs ∙ sym (append-nil core.arcs.items);
     }

@@ -28,7 +28,7 @@ loop-i-preserved g c =
     let room : i < length replies = omega arith in (
       λ h made.
           let longer = ap (λ rs. after_calls m (map call_of (take (i + 1) calls)) (map (reply_of m f) (take (i + 1) rs)) h) wrote ∙ after_more m call_of (reply_of m f) calls replies i _ reply h within room in
-          subst (λ hh. Made m hh after) (sym longer) (c.answer-reply.ensures.promise _ (c.loop-i.invariant.0 h made)).0,
+          subst (λ hh. Made m hh after) (sym longer) (c.answer-reply.ensures.made _ (c.loop-i.invariant.0 h made)),
       ap (drop (i + 1)) wrote ∙ drop-set-lt (i + 1) replies i reply (omega arith)
           ∙ sym (drop-drop 1 i replies) ∙ ap (drop 1) c.loop-i.invariant.1 ∙ drop-drop 1 i c.args.replies.now,
       subst (λ rs. DoesAll m (map call_of (take (i + 1) calls)) (map (reply_of m f) (take (i + 1) rs)) s after) (sym wrote)
@@ -51,7 +51,6 @@ returns g c =
     record {
       count = c.min-n.ensures;
       rest = subst (λ (j : ℕ). drop j replies ≡ drop j c.args.replies.now) all c.loop-i.invariant.1;
-      promise = λ h made. (made_after h made, kept_after h made);
       answers = record {
         does = subst (λ (j : ℕ). DoesAll m (map call_of (take j calls)) (map (reply_of m f) (take j replies)) s after) all c.loop-i.invariant.2;
         made = made_after;

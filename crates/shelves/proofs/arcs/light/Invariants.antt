@@ -1,6 +1,0 @@
-use Rattle.std.proofs.Common.{◌≤◌, take}
-use Rattle.std.specs.List.{AllByRecursion}
-use Rattle.shelves.proofs.arcs.light.Given as goal
-
-abbrev pub invariant-loop-arc : goal.invariant-loop-arc
-invariant-loop-arc l = AllByRecursion (λ a. a.label.cycles ≤ 1073741823) (take l.arc-index l.arcs)
