@@ -1,5 +1,5 @@
 -- The plain words of records, arcs and sums.
-use Rattle.std.specs.Prelude.{ℕ, cond, if◌then◌else◌, List, ◌++◌, length, codes, decimal, ◌==◌}
+use Rattle.std.specs.Prelude.{ℕ, if◌then◌else◌, List, ◌++◌, length, codes, decimal, ◌==◌}
 use Rattle.algebra.specs.declared.arc.Arc.{Arc}
 use Rattle.algebra.specs.declared.label.Label.{Label}
 use Rattle.program.specs.Entries.{Entry, node, pause, table, choice, sequence, repeat, fork, abort, clear}
@@ -40,7 +40,3 @@ end_words to = if to == 255 then codes "out" else decimal to
 -- an arc in words
 abbrev pub words_of_arc : Arc → List ℕ
 words_of_arc a = codes "from " ++ (decimal a.from ++ (codes " to " ++ (end_words a.to ++ label_words a.label)))
-
--- a sum of cycles: one held at the top is over, whatever it would be
-abbrev pub sum_words : ℕ → List ℕ
-sum_words n = cond (n == 4294967295) (codes "over") (decimal n)

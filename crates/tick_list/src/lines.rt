@@ -1,12 +1,11 @@
-// Records, arcs and sums in plain words.
-ghost use Rattle.std.specs.Prelude.{◌≡◌, Some, IfOk, string_bytes};
+// Records and arcs in plain words.
+ghost use Rattle.std.specs.Prelude.{Some};
 ghost use Rattle.program.specs.Entries.{entry};
-ghost use Rattle.tick_list.specs.Lines.{label_words, words, end_words, words_of_arc, sum_words};
+ghost use Rattle.tick_list.specs.Lines.{label_words, words, end_words, words_of_arc};
 
 use algebra::arc::{Arc, OUT};
 use algebra::label::Label;
 use program::record::Record;
-use std::alloc::{AllocError, Global};
 use std::fmt;
 
 // A value as it is printed in plain words.
@@ -63,16 +62,5 @@ impl fmt::Display for Words<Arc> {
     fn fmt<W: fmt::Write>(&self, f: &mut fmt::Formatter<W>) -> fmt::Result {
         let Arc { from, to, label } = self.0;
         write!(f, "from {from} to {}{}", End(to), Words(label))
-    }
-}
-
-// A sum of cycles. One at the top may be past it, so it is shown as `over`.
-pub fn sum(heap: Global, cycles: u32) -> Result<String, AllocError>
-    ensures { IfOk result (λ s. string_bytes s ≡ sum_words cycles) }
-{
-    if cycles == u32::MAX {
-        String::from_str(heap, "over")
-    } else {
-        format!(in heap; "{cycles}")
     }
 }

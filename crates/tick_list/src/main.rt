@@ -6,7 +6,7 @@ mod lines;
 use algebra::best::Best;
 use algebra::ports::Ports;
 use algebra::worst::Worst;
-use lines::{Words, sum};
+use lines::Words;
 use program::file::list;
 use program::record::Record;
 use program::refusal::Refusal;
@@ -25,23 +25,16 @@ fn print_record(rt: &HostRuntime, index: usize, of: &Record) -> io::Result<()> {
 }
 
 fn print_totals(rt: &HostRuntime, records: &[Record]) -> io::Result<()> {
-    let heap = rt.alloc();
-    let labels = count(records);
-    let worst = sum(heap, weight::<Worst>(records).cycles)?;
-    let best = sum(heap, weight::<Best>(records).cycles)?;
-    let ports = weight::<Ports>(records).bits;
-    let total = records.len();
-    println!(rt; "records {total}")?;
-    println!(rt; "labels {labels}")?;
-    println!(rt; "worst {worst}")?;
-    println!(rt; "best {best}")?;
-    println!(rt; "ports {ports}")
+    println!(rt; "records {}", records.len())?;
+    println!(rt; "labels {}", count(records))?;
+    println!(rt; "worst {}", weight::<Worst>(records))?;
+    println!(rt; "best {}", weight::<Best>(records))?;
+    println!(rt; "ports {}", weight::<Ports>(records))
 }
 
 // Records are numbered from 0, so the one that is refused has the count of those before it.
 fn print_refusal(rt: &HostRuntime, why: Refusal, before: usize) -> io::Result<()> {
-    let number = why.number();
-    println!(rt; "refused {number} record {before}")
+    println!(rt; "refused {} record {before}", why.number())
 }
 
 fn main(rt: HostRuntime) -> io::Result<()> {
