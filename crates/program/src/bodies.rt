@@ -41,6 +41,7 @@ pub fn step(body: &[u8]) -> Result<(u8, Label), Refusal>
 fn arc(bytes: &[u8; 10]) -> Arc
     ensures { FitsArc result × (bytes.now ≡ arc_bytes result) }
 {
+    // All ten by name: a label's eight bytes as the rest of the pattern are not proved yet.
     let [from, to, c0, c1, c2, c3, p0, p1, p2, p3] = *bytes;
     let label = label(&[c0, c1, c2, c3, p0, p1, p2, p3]);
     Arc { from, to, label }

@@ -27,6 +27,7 @@ pub fn list(heap: Global, bytes: &[u8]) -> Result<Listing, AllocError>
         let refusal = Some(Refusal::Large);
         return Ok(Listing { records, refusal });
     }
+    // Each record says itself how long it is, so the loop goes by what is left.
     let mut left = bytes;
     while !left.is_empty() {
         match read(heap, left) {

@@ -10,6 +10,7 @@ use algebra::arc::Arc;
 fn add_arcs<V: Algebra>(start: V, arcs: &[Arc]) -> V
     ensures { V.means result ≡ added V.model (V.means start) (map (λ a. a.label) arcs.now) }
 {
+    // A `for`, not a `fold`: a sum is known by its meaning alone, which an invariant says in a line.
     let mut sum = start;
     for arc in arcs {
         sum = sum.add(V::weigh(arc.label));
