@@ -19,7 +19,7 @@ fn perform<V: Algebra>(rack: &mut Rack<V>, of: &Record) -> Result<usize, Refusal
     match of {
         Record::Node { shelf, label } => rack.node(*shelf, *label),
         Record::Pause { shelf, label } => rack.pause(*shelf, *label),
-        Record::Table { shelf, arcs } => rack.table(*shelf, arcs.as_slice()),
+        Record::Table { shelf, arcs } => rack.table(*shelf, arcs),
         Record::Choice { first, second } => rack.choice(*first, *second),
         Record::Sequence { first, second } => rack.sequence(*first, *second),
         Record::Loop { shelf } => rack.repeat(*shelf),

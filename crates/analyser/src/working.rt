@@ -16,7 +16,7 @@ use shelves::report::Report;
 pub fn work<V: Algebra>(rack: &mut Rack<V>, listing: &Listing) -> Result<Report<V>, Fault>
     ensures { Works V.model (map entry listing.now.records.items) listing.now.refusal (state_of V.model V.means rack.old.core) (state_of V.model V.means rack.new.core) (found_of V.model V.means result) }
 {
-    take_all(rack, listing.records.as_slice())?;
+    take_all(rack, &listing.records)?;
     let accepted = listing.records.len();
     if let Some(found) = listing.refusal {
         return Err(Fault {
