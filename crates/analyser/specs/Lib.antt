@@ -1,3 +1,4 @@
 pub mod Faults
 pub mod Records
 pub mod Files
+pub mod Cores

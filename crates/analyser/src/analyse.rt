@@ -13,6 +13,7 @@ use shelves::report::Report;
 use std::alloc::{AllocError, Global};
 
 // The report of the one plan that the file spells, or the first no with how many records were accepted before it.
+// A result in a result: a no is an answer that callers print, and want of memory an error that they pass on.
 pub fn analyse<V: Algebra>(
     heap: Global,
     bytes: &[u8],

@@ -5,7 +5,7 @@ ghost use Rattle.analyser.specs.Faults.{number_of};
 use program::refusal::Refusal as FileRefusal;
 use shelves::refusal::Refusal;
 
-#[derive(Clone, Copy)]
+#[derive(Clone, Copy, PartialEq, Eq, Debug)]
 pub enum Why {
     // the rack refused a record's call
     Rack(Refusal),
@@ -15,7 +15,7 @@ pub enum Why {
     NotOne,
 }
 
-#[derive(Clone, Copy)]
+#[derive(Clone, Copy, PartialEq, Eq, Debug)]
 pub struct Fault {
     pub accepted: usize,
     pub why: Why,

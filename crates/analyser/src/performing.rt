@@ -1,10 +1,9 @@
 // Records performed on a rack, each as its call.
-ghost use Rattle.std.specs.Prelude.{map};
 ghost use Rattle.program.specs.Entries.{entry};
 ghost use Rattle.shelves.specs.Changing.{answered};
 ghost use Rattle.shelves.specs.Held.{state_of};
 ghost use Rattle.shelves.specs.Promise.{Answers};
-ghost use Rattle.analyser.specs.Files.{Took};
+ghost use Rattle.analyser.specs.Cores.{CoreTook};
 ghost use Rattle.analyser.specs.Records.{as_call};
 
 use crate::fault::{Fault, Why};
@@ -19,7 +18,7 @@ fn perform<V: Algebra>(rack: &mut Rack<V>, of: &Record) -> Result<usize, Refusal
     match of {
         Record::Node { shelf, label } => rack.node(*shelf, *label),
         Record::Pause { shelf, label } => rack.pause(*shelf, *label),
-        Record::Table { shelf, arcs } => rack.table(*shelf, arcs.as_slice()),
+        Record::Table { shelf, arcs } => rack.table(*shelf, arcs),
         Record::Choice { first, second } => rack.choice(*first, *second),
         Record::Sequence { first, second } => rack.sequence(*first, *second),
         Record::Loop { shelf } => rack.repeat(*shelf),
@@ -31,7 +30,7 @@ fn perform<V: Algebra>(rack: &mut Rack<V>, of: &Record) -> Result<usize, Refusal
 
 // Performs records up to the first that is refused.
 pub(crate) fn take_all<V: Algebra>(rack: &mut Rack<V>, records: &[Record]) -> Result<(), Fault>
-    ensures { Took V.model (map entry records.now) (state_of V.model V.means rack.old.core) (state_of V.model V.means rack.new.core) result }
+    ensures { CoreTook V.model V.means records.now rack.old.core rack.new.core result }
 {
     for (i, record) in records.iter().enumerate() {
         if let Err(found) = perform(rack, record) {

@@ -1,8 +1,5 @@
 // A listed file run on a rack.
-ghost use Rattle.std.specs.Prelude.{map};
-ghost use Rattle.program.specs.Entries.{entry};
-ghost use Rattle.shelves.specs.Held.{state_of};
-ghost use Rattle.analyser.specs.Files.{Works, found_of};
+ghost use Rattle.analyser.specs.Cores.{CoreWorks};
 
 use crate::fault::{Fault, Why};
 use crate::performing::take_all;
@@ -14,9 +11,9 @@ use shelves::report::Report;
 
 // Runs every record as its call and reports the one filled shelf. A file that is refused leaves what its accepted records made.
 pub fn work<V: Algebra>(rack: &mut Rack<V>, listing: &Listing) -> Result<Report<V>, Fault>
-    ensures { Works V.model (map entry listing.now.records.items) listing.now.refusal (state_of V.model V.means rack.old.core) (state_of V.model V.means rack.new.core) (found_of V.model V.means result) }
+    ensures { CoreWorks V.model V.means listing.now rack.old.core rack.new.core result }
 {
-    take_all(rack, listing.records.as_slice())?;
+    take_all(rack, &listing.records)?;
     let accepted = listing.records.len();
     if let Some(found) = listing.refusal {
         return Err(Fault {

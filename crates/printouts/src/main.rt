@@ -8,15 +8,15 @@ fn agrees(rt: &HostRuntime, name: &str) -> io::Result<bool> {
     let heap = rt.alloc();
     let file = format!(in heap; "{name}.bin")?;
     let beside = format!(in heap; "{name}.txt")?;
-    let bytes = fs::read(rt, file.as_str())?;
-    let wanted = fs::read_to_string(rt, beside.as_str())?;
-    let text = printout(heap, bytes.as_slice())?;
+    let bytes = fs::read(rt, &file)?;
+    let wanted = fs::read_to_string(rt, &beside)?;
+    let text = printout(heap, &bytes)?;
     Ok(text == wanted)
 }
 
 fn main(rt: HostRuntime) -> io::Result<()> {
     for name in env::args(&rt)?.skip(1) {
-        let said = if agrees(&rt, name.as_str())? {
+        let said = if agrees(&rt, &name)? {
             "agrees"
         } else {
             "differs"

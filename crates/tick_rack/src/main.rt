@@ -8,7 +8,7 @@ use std::io::Read;
 fn print_lines(rt: &HostRuntime) -> io::Result<()> {
     let mut bytes = Vec::new(rt.alloc());
     rt.stdin().read_to_end(&mut bytes)?;
-    let text = printout(rt.alloc(), bytes.as_slice())?;
+    let text = printout(rt.alloc(), &bytes)?;
     print!(rt; "{text}")
 }
 
