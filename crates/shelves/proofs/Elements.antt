@@ -1,25 +1,16 @@
 -- What holds of every element of a list, of the elements before one, and of some element.
-use Rattle.std.proofs.Common.{◌≡◌, ℕ, zero, suc, ◌+◌, ◌<◌, ◌≤◌, Bool, true, false, leb, ◌⊎◌, List, [], ◌∷◌, ◌++◌, map, length, get_or, take, Decides, sym, refl, ◌∙◌, subst, inl, inr, ⊎_elim, le_of_suc-le-suc, not-suc-le-zero, arith}
+use Rattle.std.proofs.Common.{◌≡◌, ℕ, zero, suc, ◌+◌, ◌<◌, Bool, true, false, ◌⊎◌, List, [], ◌∷◌, ◌++◌, map, length, get_or, take, Decides, sym, refl, ◌∙◌, subst, inl, inr, ⊎_elim, le_of_suc-le-suc, not-suc-le-zero, arith}
 use mathlib.Core.List.{Memᴰ as Among}
-use Rattle.std.proofs.ByRecursion.{All-get_or}
 use Rattle.std.proofs.lemmas.List.{take_more}
-use Rattle.std.proofs.lemmas.Bool.{false≢true, leb-false}
+use Rattle.std.proofs.lemmas.Bool.{false≢true}
 use Rattle.std.proofs.lemmas.Bool.Decides.{Decides-like}
 use Rattle.std.proofs.lemmas.List.FromFn.{length-range_with_len, get_or-range_with_len}
 use Rattle.std.specs.Bool.{MatchBool}
 use Rattle.std.specs.List.{AllByRecursion, AllWithin, Any, Contains, HoldsAt, range_with_len}
 
--- one element that fails, and not all pass
-pub fails : {X : Type 0} (P : X → Type 0) (xs : List X) (i : ℕ) (d : X) → i < length xs → (P (get_or xs i d) → ⊥) → Decides false (AllByRecursion P xs)
-fails P xs i d less no_pass = (λ e. absurd (false≢true e), λ all. absurd (no_pass (All-get_or P xs i d less all)))
-
 -- what holds passes
 pub passes : {P : Type 0} → P → Decides true P
 passes all = (λ e. all, λ all'. refl)
-
--- a bound that a test denies does not hold
-pub not_within : (a b : ℕ) → leb a b ≡ false → a ≤ b → ⊥
-not_within a b e h = let far = leb-false a b e in omega arith
 
 pub unmapped : {X Y : Type 0} (P : Y → Type 0) (f : X → Y) (xs : List X) → AllByRecursion P (map f xs) → AllByRecursion (λ x. P (f x)) xs
 unmapped P f [] all = tt
@@ -36,13 +27,6 @@ pub all_among : {X : Type 0} (P : X → Type 0) (xs : List X) (x : X) → AllByR
 all_among P [] x all m = elim m [ ]
 all_among P (y ∷ xs) x all (Among.head e) = subst P (sym e) all.0
 all_among P (y ∷ xs) x all (Among.tail m) = all_among P xs x all.1 m
-
--- an element of the first ones is one of the list
-pub among_take : {X : Type 0} (n : ℕ) (xs : List X) (x : X) → Among x (take n xs) → Among x xs
-among_take zero xs x m = elim m [ ]
-among_take (suc n) [] x m = elim m [ ]
-among_take (suc n) (y ∷ xs) x (Among.head e) = Among.head e
-among_take (suc n) (y ∷ xs) x (Among.tail m) = Among.tail (among_take n xs x m)
 
 -- an element of one more of the first ones is that one, or one of the first
 pub among_more : {X : Type 0} (xs : List X) (i : ℕ) (d x : X) → i < length xs → Among x (take (i + 1) xs) → (x ≡ get_or xs i d) ⊎ Among x (take i xs)

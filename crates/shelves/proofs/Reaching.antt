@@ -1,11 +1,10 @@
 -- The phases of a figure are their own ticks, and where the algebra chooses, one of them has the figure.
-use Rattle.std.proofs.Common.{◌≡◌, ℕ, zero, suc, ◌+◌, ◌<◌, ◌≤◌, ◌≢◌, ◌⊎◌, Some, None, sym, refl, ap, ◌∙◌, inl, inr, ⊎_elim, add-one, arith}
+use Rattle.std.proofs.Common.{◌≡◌, ℕ, zero, suc, ◌+◌, ◌<◌, ◌≤◌, ◌≢◌, ◌⊎◌, Some, None, sym, refl, ap, ◌∙◌, inl, inr, ⊎_elim, arith}
 use Rattle.algebra.specs.Model.{Model}
 use Rattle.algebra.specs.Coefficients.{Coef, join}
 use Rattle.rows.specs.Phases.{phase, after}
 use Rattle.rows.specs.Pieces.{Rows, size, pause_at, exit_at}
 use Rattle.rows.proofs.PhaseLaws.{after_below}
-use Rattle.runs.specs.Figure.{figure}
 use Rattle.runs.specs.Joined.{joins}
 
 -- up to the end of the first round a tick is its own phase
@@ -18,11 +17,6 @@ pub both_at : (m : Model) (a : Rows m) (k : ℕ) → k < size a → (p e both : 
 both_at m a k less p e both h pause exit =
     h ∙ ap (λ c. join m c e) pause ∙ ap (join m (a.p k)) exit
     ∙ sym (ap (λ (j : ℕ). join m (a.p j) (a.e j)) (phase_own a.transient a.period k less))
-
--- a figure over one tick more
-pub figure_more : (m : Model) (p e : ℕ → Coef m) (k : ℕ) (all here more : Coef m) → more ≡ join m all here → all ≡ figure m p e k → here ≡ join m (p k) (e k) → more ≡ figure m p e (k + 1)
-figure_more m p e k all here more h before last =
-    h ∙ ap (λ c. join m c here) before ∙ ap (join m (figure m p e k)) last ∙ sym (ap (figure m p e) (add-one k))
 
 module _ (m : Model) (chosen : (a b : m.Carrier) → (m.join a b ≡ a) ⊎ (m.join a b ≡ b)) where
   -- the join of two coefficients is one of them

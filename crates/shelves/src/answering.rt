@@ -20,6 +20,7 @@ fn act<V: Algebra>(core: &mut Core<V>, call: Call) -> Reply<V>
     requires { CoreSaysYes V.model V.means (call_of call) core.old }
     ensures { CoreDoes V.model V.means (call_of call.entry) (reply_of V.model V.means result) core.old core.new }
 {
+    // A match gives each call's own arguments to its function, which a table of closures could not.
     match call {
         Call::Node { shelf, label } => act_node(core, shelf, label),
         Call::Pause { shelf, label } => act_pause(core, shelf, label),

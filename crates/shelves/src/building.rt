@@ -18,7 +18,8 @@ use rows::shape::Shape;
 use rows::unroll::unroll;
 use runs::step::Step;
 
-// Records a step, and notes it with the shape of its rows on shelf k.
+// Records a step, and notes it with the shape of its rows on shelf k. Room for the step is a fact of the moment, which a
+// question asks, and not of the type: so it stands in each `requires`.
 fn settle<V: Algebra>(core: &mut Core<V>, k: usize, shape: Shape, step: Step)
     requires { (k ≤ 15) × (length core.old.steps.items < 512) }
     ensures cells { core.new.cells ≡ core.old.cells }
@@ -37,7 +38,7 @@ fn settle<V: Algebra>(core: &mut Core<V>, k: usize, shape: Shape, step: Step)
     core.steps.push(step);
 }
 
-// Puts a node's rows on shelf k and records its step.
+// Puts a node's rows on shelf k and records its step. A pause differs in the rows written too, so it has its own function.
 pub fn put_node<V: Algebra>(core: &mut Core<V>, k: usize, label: Label)
     requires { (k ≤ 15) × (length core.old.steps.items < 512) }
     ensures { Puts V.model (node_row V.model label) k (node_step label) [] (state_of V.model V.means core.old) (state_of V.model V.means core.new) }

@@ -7,7 +7,7 @@ use algebra::arc::Arc;
 use algebra::label::Label;
 
 // The ways of putting two pieces together.
-#[derive(Clone, Copy, PartialEq, Eq)]
+#[derive(Clone, Copy, PartialEq, Eq, Debug)]
 pub enum Pairing {
     Choice,
     Sequence,
@@ -15,7 +15,7 @@ pub enum Pairing {
     Abort,
 }
 
-#[derive(Clone, Copy)]
+#[derive(Clone, Copy, PartialEq, Eq, Debug)]
 pub enum Call<'a> {
     Node {
         shelf: u8,

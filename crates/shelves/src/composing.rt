@@ -63,6 +63,7 @@ pub fn put_pair<V: Algebra>(
 {
     let a = piece(&core.shelves, first);
     let b = piece(&core.shelves, second);
+    // Each kind unrolls a rule of its own type, so closures for the kinds would say as much.
     match kind {
         Pairing::Choice => build(
             core,

@@ -23,6 +23,7 @@ pub fn answer_all<V: Algebra>(core: &mut Core<V>, calls: &[Call], replies: &mut 
     ensures answers { CoreAnswersAll V.model V.means (take result calls.now) (take result replies.new) core.old core.new }
 {
     let n = calls.len().min(replies.len());
+    // By index, as two slices go in step and one of them is written through `write_reply`.
     for i in 0..n {
         let reply = answer(core, calls[i]);
         write_reply(replies, i, reply);

@@ -27,13 +27,7 @@ impl Shelves {
         ensures { shelves_of result ≡ replicate 16 empty_shelf }
     {
         Shelves {
-            items: [Shelf {
-                step: None,
-                shape: Shape {
-                    transient: 0,
-                    period: 1,
-                },
-            }; 16],
+            items: [Shelf::empty(); 16],
         }
     }
 

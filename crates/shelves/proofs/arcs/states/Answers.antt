@@ -6,9 +6,6 @@ use Rattle.shelves.specs.Questions.{UpToNamed}
 use Rattle.shelves.proofs.Elements.{among_at, among_more}
 use Rattle.shelves.proofs.arcs.states.Goals as goal
 
-pub loop-arc-init : goal.loop-arc-init
-loop-arc-init c q = (λ h. absurd (omega arith), λ n. elim n.1 [ ])
-
 pub loop-arc-preserved : goal.loop-arc-preserved
 loop-arc-preserved c q =
     let arcs = c.args.arcs.now in

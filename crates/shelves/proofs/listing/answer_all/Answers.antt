@@ -1,4 +1,4 @@
-use Rattle.std.proofs.Common.{◌≡◌, ℕ, ◌+◌, ◌<◌, List, map, length, take, drop, sym, refl, ap, ◌∙◌, subst, arith}
+use Rattle.std.proofs.Common.{◌≡◌, ℕ, ◌+◌, ◌<◌, List, map, length, take, drop, sym, ap, ◌∙◌, subst, arith}
 use Rattle.std.proofs.lemmas.List.{drop-set-lt, drop-drop}
 use Rattle.shelves.specs.Calls.{Event}
 use Rattle.shelves.specs.Effects.{DoesAll}
@@ -9,9 +9,6 @@ use Rattle.shelves.proofs.AlgebraLaws.{laws_of}
 use Rattle.shelves.proofs.CallLists.{after_more, does_more}
 use Rattle.shelves.proofs.Histories.{kept}
 use Rattle.shelves.proofs.listing.answer_all.Goals as goal
-
-pub loop-i-init : goal.loop-i-init
-loop-i-init g c = (λ h made. made, refl, refl)
 
 pub loop-i-preserved : goal.loop-i-preserved
 loop-i-preserved g c =

@@ -1,10 +1,7 @@
-use Rattle.std.proofs.Common.{◌≡◌, ◌≢◌, get_or, drop, None, refl, ap, ◌∙◌, arith}
+use Rattle.std.proofs.Common.{◌≡◌, ◌≢◌, get_or, drop, None, ap, ◌∙◌, arith}
 use Rattle.std.proofs.lemmas.List.{get_or-set_same, get_or-set_other, drop-set-lt}
 use Rattle.rows.proofs.Ranges.{up_to}
 use Rattle.shelves.proofs.opening.wipe.Goals as goal
-
-pub loop-k-init : goal.loop-k-init
-loop-k-init g c = (λ j low less. absurd (omega arith), refl)
 
 pub loop-k-preserved : goal.loop-k-preserved
 loop-k-preserved g c =
@@ -16,9 +13,3 @@ loop-k-preserved g c =
           (ap (λ xs. get_or xs k None) wrote ∙ get_or-set_same cells k None None (omega arith)),
       ap (drop 4096) wrote ∙ drop-set-lt 4096 cells k None (omega arith) ∙ c.loop-k.invariant.1,
     )
-
-pub returns : goal.returns
-returns g c = record {
-  blank = λ j less. c.loop-k.invariant.0 j (omega arith) (omega arith);
-  past = c.loop-k.invariant.1;
-}

@@ -1,6 +1,4 @@
-use Rattle.std.proofs.Common.{ℕ, ◌+◌, ◌≢◌, sym, ◌∙◌, arith, below_more}
-use Rattle.std.proofs.lemmas.Bool.{false≢true}
-use Rattle.std.specs.Option.{option_map}
+use Rattle.std.proofs.Common.{◌+◌, sym, ◌∙◌, arith}
 use Rattle.algebra.specs.Coefficients.{join}
 use Rattle.rows.specs.Pieces.{rows_of, meanings, pause_at, exit_at}
 use Rattle.shelves.proofs.Reaching.{reached}
@@ -12,10 +10,3 @@ unreachable-requires g c =
     let rows = rows_of m (meanings g.V.Algebra.means c.args.cells.now) c.args.piece.now in
     reached m (g.met.V.Algebra.chosen c.requires.chooses) (λ n. join m (pause_at rows n) (exit_at rows n)) (rows.transient + rows.period) (omega arith)
     (λ k less e. c.loop-tick.invariant k (omega arith) (e ∙ sym c.requires.whole))
-
-pub loop-tick-preserved : goal.loop-tick-preserved
-loop-tick-preserved g c =
-    let m = g.V.Algebra.model in
-    let rows = rows_of m (meanings g.V.Algebra.means c.args.cells.now) c.args.piece.now in
-    below_more (λ (n : ℕ). join m (pause_at rows n) (exit_at rows n) ≢ option_map g.V.Algebra.means c.args.figure) c.loop-tick.tick c.loop-tick.invariant
-    (λ e. false≢true (c.if-equal.ensures.1 (c.both.ensures ∙ e)))
