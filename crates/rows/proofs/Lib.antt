@@ -9,3 +9,4 @@ pub mod Walking
 pub mod Parts
 pub mod FillLaws
 pub mod Unrolling
+pub mod Chaining

@@ -4,7 +4,7 @@ ghost use Rattle.rows.specs.Pieces.{rows_of};
 ghost use Rattle.rows.specs.Rules.Abort.{abort as the_abort};
 
 use crate::piece::{Piece, Row};
-use crate::rule::RowRule;
+use crate::rule::{RowRule, Tick};
 use crate::situation::Situation;
 use algebra::algebra::Algebra;
 use algebra::coefficient::{add, join, mark};
@@ -30,32 +30,24 @@ impl RowRule for Abort {
         }
     }
 
-    fn pause<V: Algebra>(&self, cells: &[Option<V>], s: Situation) -> Option<V> {
-        add(
-            self.h.at(Row::Pause, cells, s.a),
-            self.a.at(Row::Pause, cells, s.b),
-        )
-    }
-
-    fn exit<V: Algebra>(&self, cells: &[Option<V>], s: Situation) -> Option<V> {
-        let cut = add(self.h.at(Row::Exit, cells, s.a), mark(s.wa));
-        let ended = add(
-            self.h.at(Row::Pause, cells, s.a),
-            self.a.at(Row::Exit, cells, s.b),
-        );
-        join(cut, ended)
-    }
-
-    fn next<V: Algebra>(&self, cells: &[Option<V>], s: Situation) -> Situation {
-        let wa = self.a.at(Row::Pause, cells, s.b).is_some();
+    fn look<V: Algebra>(&self, cells: &[Option<V>], s: Situation) -> Tick<V> {
+        let hp = self.h.at(Row::Pause, cells, s.a);
+        let he = self.h.at(Row::Exit, cells, s.a);
+        let ap = self.a.at(Row::Pause, cells, s.b);
+        let ae = self.a.at(Row::Exit, cells, s.b);
+        let pause = add(hp, ap);
+        let cut = add(he, mark(s.wa));
+        let ended = add(hp, ae);
+        let exit = join(cut, ended);
         let a = self.h.shape.after(s.a);
         let b = self.a.shape.after(s.b);
-        Situation {
+        let next = Situation {
             a,
             b,
             set: 0,
-            wa,
+            wa: ap.is_some(),
             wb: false,
-        }
+        };
+        Tick { pause, exit, next }
     }
 }

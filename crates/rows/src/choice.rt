@@ -4,7 +4,7 @@ ghost use Rattle.rows.specs.Pieces.{rows_of};
 ghost use Rattle.rows.specs.Rules.Choice.{choice as the_choice};
 
 use crate::piece::{Piece, Row};
-use crate::rule::RowRule;
+use crate::rule::{RowRule, Tick};
 use crate::situation::Situation;
 use algebra::algebra::Algebra;
 use algebra::coefficient::join;
@@ -30,29 +30,22 @@ impl RowRule for Choice {
         }
     }
 
-    fn pause<V: Algebra>(&self, cells: &[Option<V>], s: Situation) -> Option<V> {
-        join(
-            self.a.at(Row::Pause, cells, s.a),
-            self.b.at(Row::Pause, cells, s.b),
-        )
-    }
-
-    fn exit<V: Algebra>(&self, cells: &[Option<V>], s: Situation) -> Option<V> {
-        join(
-            self.a.at(Row::Exit, cells, s.a),
-            self.b.at(Row::Exit, cells, s.b),
-        )
-    }
-
-    fn next<V: Algebra>(&self, cells: &[Option<V>], s: Situation) -> Situation {
+    fn look<V: Algebra>(&self, cells: &[Option<V>], s: Situation) -> Tick<V> {
+        let ap = self.a.at(Row::Pause, cells, s.a);
+        let ae = self.a.at(Row::Exit, cells, s.a);
+        let bp = self.b.at(Row::Pause, cells, s.b);
+        let be = self.b.at(Row::Exit, cells, s.b);
+        let pause = join(ap, bp);
+        let exit = join(ae, be);
         let a = self.a.shape.after(s.a);
         let b = self.b.shape.after(s.b);
-        Situation {
+        let next = Situation {
             a,
             b,
             set: 0,
             wa: false,
             wb: false,
-        }
+        };
+        Tick { pause, exit, next }
     }
 }

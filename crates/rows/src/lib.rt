@@ -16,6 +16,7 @@ pub mod sequence;
 pub mod sets;
 pub mod shape;
 pub mod situation;
+pub mod situations;
 pub mod table;
 pub mod unroll;
 pub mod walk;

@@ -5,7 +5,7 @@ ghost use Rattle.rows.specs.Pieces.{rows_of, meanings};
 ghost use Rattle.rows.specs.Rules.Loop.{loop as the_loop, starts};
 
 use crate::piece::{Piece, Row};
-use crate::rule::RowRule;
+use crate::rule::{RowRule, Tick};
 use crate::sets::with;
 use crate::situation::Situation;
 use algebra::algebra::Algebra;
@@ -45,28 +45,27 @@ impl RowRule for Repeat {
         }
     }
 
-    fn pause<V: Algebra>(&self, cells: &[Option<V>], s: Situation) -> Option<V> {
-        let begins = add(self.again(cells, s), self.a.at(Row::Pause, cells, 0));
-        join(begins, self.a.over(Row::Pause, cells, s.set))
-    }
-
-    fn exit<V: Algebra>(&self, cells: &[Option<V>], s: Situation) -> Option<V> {
-        None
-    }
-
-    fn next<V: Algebra>(&self, cells: &[Option<V>], s: Situation) -> Situation {
+    fn look<V: Algebra>(&self, cells: &[Option<V>], s: Situation) -> Tick<V> {
+        let again = self.again(cells, s);
+        let begins = add(again, self.a.at(Row::Pause, cells, 0));
+        let pause = join(begins, self.a.over(Row::Pause, cells, s.set));
         let moved = self.a.moved(cells, s.set);
-        let set = if self.again(cells, s).is_some() {
+        let set = if again.is_some() {
             with(moved, self.a.shape.after(0))
         } else {
             moved
         };
-        Situation {
+        let next = Situation {
             a: 0,
             b: 0,
             set,
             wa: false,
             wb: false,
+        };
+        Tick {
+            pause,
+            exit: None,
+            next,
         }
     }
 }

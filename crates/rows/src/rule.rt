@@ -10,6 +10,13 @@ ghost use Rattle.rows.specs.Rules.Rule.{Rule};
 use crate::situation::Situation;
 use algebra::algebra::Algebra;
 
+// Pause and exit at a situation, and the situation after it.
+pub struct Tick<V> {
+    pub pause: Option<V>,
+    pub exit: Option<V>,
+    pub next: Situation,
+}
+
 pub trait RowRule {
     // the situations that index their rows
     ghost fits: { Self → Sit → Type 0 };
@@ -21,19 +28,11 @@ pub trait RowRule {
         ensures value { result ≡ (works self.now V.Algebra.model (meanings V.Algebra.means cells.now)).first }
         ensures fits { fits self.now result };
 
-    fn pause<V: Algebra>(&self, cells: &[Option<V>], s: Situation) -> Option<V>
+    fn look<V: Algebra>(&self, cells: &[Option<V>], s: Situation) -> Tick<V>
         requires fits { fits self.now s }
         requires room { 2048 ≤ length cells.now }
-        ensures { option_map V.Algebra.means result ≡ (works self.now V.Algebra.model (meanings V.Algebra.means cells.now)).pause s };
-
-    fn exit<V: Algebra>(&self, cells: &[Option<V>], s: Situation) -> Option<V>
-        requires fits { fits self.now s }
-        requires room { 2048 ≤ length cells.now }
-        ensures { option_map V.Algebra.means result ≡ (works self.now V.Algebra.model (meanings V.Algebra.means cells.now)).exit s };
-
-    fn next<V: Algebra>(&self, cells: &[Option<V>], s: Situation) -> Situation
-        requires fits { fits self.now s }
-        requires room { 2048 ≤ length cells.now }
-        ensures value { result ≡ (works self.now V.Algebra.model (meanings V.Algebra.means cells.now)).next s }
-        ensures fits { fits self.now result };
+        ensures pause { option_map V.Algebra.means result.pause ≡ (works self.now V.Algebra.model (meanings V.Algebra.means cells.now)).pause s }
+        ensures exit { option_map V.Algebra.means result.exit ≡ (works self.now V.Algebra.model (meanings V.Algebra.means cells.now)).exit s }
+        ensures next { result.next ≡ (works self.now V.Algebra.model (meanings V.Algebra.means cells.now)).next s }
+        ensures fits { fits self.now result.next };
 }

@@ -4,7 +4,7 @@ ghost use Rattle.rows.specs.Pieces.{rows_of};
 ghost use Rattle.rows.specs.Rules.Sequence.{sequence as the_sequence};
 
 use crate::piece::{Piece, Row};
-use crate::rule::RowRule;
+use crate::rule::{RowRule, Tick};
 use crate::sets::with;
 use crate::situation::Situation;
 use algebra::algebra::Algebra;
@@ -31,41 +31,27 @@ impl RowRule for Sequence {
         }
     }
 
-    fn pause<V: Algebra>(&self, cells: &[Option<V>], s: Situation) -> Option<V> {
-        let goes_on = self.a.at(Row::Pause, cells, s.a);
-        let meets = add(
-            self.a.at(Row::Exit, cells, s.a),
-            self.b.at(Row::Pause, cells, 0),
-        );
-        let within = self.b.over(Row::Pause, cells, s.set);
-        join(join(goes_on, meets), within)
-    }
-
-    fn exit<V: Algebra>(&self, cells: &[Option<V>], s: Situation) -> Option<V> {
-        let meets = add(
-            self.a.at(Row::Exit, cells, s.a),
-            self.b.at(Row::Exit, cells, 0),
-        );
-        let within = self.b.over(Row::Exit, cells, s.set);
-        join(meets, within)
-    }
-
-    fn next<V: Algebra>(&self, cells: &[Option<V>], s: Situation) -> Situation {
-        let leaves = self.a.at(Row::Exit, cells, s.a).is_some();
-        let begins = self.b.at(Row::Pause, cells, 0).is_some();
+    fn look<V: Algebra>(&self, cells: &[Option<V>], s: Situation) -> Tick<V> {
+        let ap = self.a.at(Row::Pause, cells, s.a);
+        let ae = self.a.at(Row::Exit, cells, s.a);
+        let bp = self.b.at(Row::Pause, cells, 0);
+        let be = self.b.at(Row::Exit, cells, 0);
+        let pause = join(join(ap, add(ae, bp)), self.b.over(Row::Pause, cells, s.set));
+        let exit = join(add(ae, be), self.b.over(Row::Exit, cells, s.set));
         let moved = self.b.moved(cells, s.set);
         let a = self.a.shape.after(s.a);
-        let set = if leaves & begins {
+        let set = if ae.is_some() & bp.is_some() {
             with(moved, self.b.shape.after(0))
         } else {
             moved
         };
-        Situation {
+        let next = Situation {
             a,
             b: 0,
             set,
             wa: false,
             wb: false,
-        }
+        };
+        Tick { pause, exit, next }
     }
 }

@@ -9,7 +9,6 @@ use crate::least::{least_period, least_transient};
 use crate::outcome::{Unkept, Unrolled};
 use crate::rule::RowRule;
 use crate::shape::Shape;
-use crate::situation::Situation;
 use crate::walk::{Turn, walk};
 use algebra::algebra::Algebra;
 
@@ -24,14 +23,7 @@ pub fn unroll<R: RowRule, V: Algebra>(
     ensures others { (j : ℕ) → j < 2048 → (j < 128 * shelf) ⊎ (128 * shelf + 128 ≤ j) → slice_index_or cells.new j absent ≡ slice_index_or cells.old j absent }
     ensures cases { let over = R.RowRule.works rule.now V.Algebra.model (meanings V.Algebra.means (take 2048 cells.old)) in MatchResult result (λ u. Unrolls over u.reply shelf u.shape.transient u.shape.period (meanings V.Algebra.means (take 2048 cells.new))) (λ no. Refused over no × (take 2048 cells.new ≡ take 2048 cells.old)) }
 {
-    let mut situations = [Situation {
-        a: 0,
-        b: 0,
-        set: 0,
-        wa: false,
-        wb: false,
-    }; 1024];
-    let Some(Turn { number, earlier }) = walk(rule, cells, &mut situations) else {
+    let Some(Turn { number, earlier }) = walk(rule, cells) else {
         return Err(Unkept::NeverSoon);
     };
     let period = least_period(cells, earlier, number);

@@ -1,25 +1,25 @@
-use Rattle.std.proofs.Common.{◌≤◌, List, length, take, drop, sym, refl, ap, ◌∙◌, arith}
+use Rattle.std.proofs.Common.{ℕ, ◌+◌, ◌<◌, ◌≤◌, List, length, take, drop, set, sym, refl, ap, ◌∙◌, subst, arith}
 use Rattle.algebra.specs.Coefficients.{Coef}
 use Rattle.rows.specs.Pieces.{meanings}
 use Rattle.rows.specs.Search.{noted}
-use Rattle.rows.proofs.Walking.{walked_more, noted_now, noted_then, shelves_same, past_same}
+use Rattle.rows.proofs.Walking.{Walked, walked_more, noted_now, noted_then, shelves_same, past_same}
 use Rattle.rows.proofs.walk.walk.Goals as goal
 
 pub returns-in-Some : goal.returns-in-Some
 returns-in-Some g c =
     let found = c.in-Some.ensures in
     let w = c.loop-n.invariant.0 in
+    let earlier : c.in-Some.i < c.loop-n.n = omega (arith, found.0) in
     record {
       below = c.loop-n.invariant.2;
       past = c.loop-n.invariant.3;
-      cases = (c.loop-n-test.true, found.0, sym (w.seen c.in-Some.i (omega arith) found.0) ∙ found.1 ∙ w.here, w.fresh, λ k less. w.kept k (omega arith) less);
+      cases = (c.loop-n-test.true, earlier, sym (w.seen c.in-Some.i (omega arith) earlier) ∙ found.1 ∙ w.here, w.fresh, λ k less. w.kept k (omega arith) less);
     }
 
 pub loop-n-init : goal.loop-n-init
 loop-n-init g c = (
   record {
     here = c.start-s.ensures.value;
-    long = c.requires.notes;
     seen = λ k low less. absurd (omega arith);
     fresh = λ j k low less. absurd (omega arith);
     kept = λ k low less. absurd (omega arith);
@@ -27,6 +27,7 @@ loop-n-init g c = (
   c.start-s.ensures.fits,
   refl,
   refl,
+  c.new-seen.ensures,
 )
 
 pub loop-n-preserved : goal.loop-n-preserved
@@ -34,6 +35,7 @@ loop-n-preserved g c =
     let m = g.V.Algebra.model in
     let f = g.V.Algebra.means in
     let over = λ (cs : List (Coef m)). g.R.RowRule.works c.args.rule.now m cs in
+    let rule = over (meanings f (take 2048 c.args.cells.now)) in
     let n = c.loop-n.n in
     let cells = c.loop-n.cells in
     let p = c.look-pause.result.pause in
@@ -42,17 +44,21 @@ loop-n-preserved g c =
     let same = c.loop-n.invariant.2 in
     let shelves = ap (meanings f) same in
     let few = c.loop-n-test.true in
+    let count = c.loop-n.invariant.4 in
+    let items = c.loop-n.seen.items in
     let wrote = c.note.ensures in (
-      walked_more (over (meanings f (take 2048 c.args.cells.now))) n c.loop-n.s c.look-pause.result.next c.loop-n.situations (meanings f cells) (meanings f c.note.new.cells) c.loop-n.invariant.0 few
-          c.in_default.ensures
+      subst (λ xs. Walked rule (n + 1) c.look-pause.result.next xs (meanings f c.note.new.cells)) (sym (c.push.ensures.items ∙ ap (λ (k : ℕ). set items k c.loop-n.s) count))
+          (walked_more rule n c.loop-n.s c.look-pause.result.next items (meanings f cells) (meanings f c.note.new.cells) c.loop-n.invariant.0 (omega arith)
+          (λ k less. c.in_default.ensures k (omega arith))
           (c.look-pause.ensures.next ∙ ap (λ cs. (over cs).next c.loop-n.s) shelves)
           (ap (λ xs. noted m (meanings f xs) n) wrote ∙ noted_now m f cells n p e room few
           ∙ (λ i. (c.look-pause.ensures.pause i, c.look-pause.ensures.exit i))
           ∙ ap (λ cs. ((over cs).pause c.loop-n.s, (over cs).exit c.loop-n.s)) shelves)
-          (λ k less. ap (λ xs. noted m (meanings f xs) k) wrote ∙ noted_then m f cells n p e room few k less),
+          (λ k less. ap (λ xs. noted m (meanings f xs) k) wrote ∙ noted_then m f cells n p e room few k less)),
       c.look-pause.ensures.fits,
       ap (take 2048) wrote ∙ shelves_same f cells n p e room few ∙ same,
       ap (drop 4096) wrote ∙ past_same f cells n p e room few ∙ c.loop-n.invariant.3,
+      omega (arith, c.push.ensures.count),
     )
 
 pub returns : goal.returns

@@ -1,7 +1,8 @@
 use Rattle.std.proofs.Common.{sym, ap, ◌∙◌}
 use Rattle.std.specs.Option.{option_map}
+use Rattle.algebra.specs.Coefficients.{join}
 use Rattle.rows.specs.Pieces.{rows_of, meanings, row}
-use Rattle.rows.specs.Sets.{has}
+use Rattle.rows.specs.Sets.{has, joins}
 use Rattle.rows.proofs.Walks.{joins_more, joins_past}
 use Rattle.rows.proofs.piece.Piece.over.Goals as goal
 use Rattle.rows.proofs.piece.Piece.over.Goals.{then-has, else-has}
