@@ -1,5 +1,5 @@
 -- Rows that repeat: periods carried over the row, and how the least shape is known from one round.
-use Rattle.std.proofs.Common.{◌≡◌, ℕ, zero, suc, ◌+◌, ◌-◌, ◌*◌, ◌/◌, ◌%◌, ◌<◌, ◌≤◌, ltb, ◌⊎◌, sym, ap, ◌∙◌, ⊎_elim, add-zero, suc-mul, mul-le-mul_left, div-add-mod', zero-mul, mul-one, arith}
+use Rattle.std.proofs.Common.{◌≡◌, ℕ, zero, suc, ◌+◌, ◌-◌, ◌*◌, ◌/◌, ◌%◌, ◌<◌, ◌≤◌, ltb, sym, ap, ◌∙◌, ⊎_elim, add-zero, suc-mul, mul-le-mul_left, div-add-mod', zero-mul, mul-one, arith}
 use Rattle.std.proofs.lemmas.Bool.{cases_lt, cond-true, cond-false, lt-ltb, le-ltb}
 use Rattle.rows.specs.Phases.{phase}
 use Rattle.algebra.specs.Model.{Model}

@@ -3,6 +3,7 @@ ghost use Rattle.std.specs.Prelude.{◌+◌, ◌<◌};
 ghost use Rattle.rows.specs.Pieces.{rows_of};
 ghost use Rattle.rows.specs.Rules.Abort.{abort as the_abort};
 
+use crate::cells::Kept;
 use crate::piece::{Piece, Row};
 use crate::rule::{RowRule, Tick};
 use crate::situation::Situation;
@@ -20,21 +21,18 @@ impl RowRule for Abort {
 
     ghost works = { λ r m cells. the_abort m (rows_of m cells r.h) (rows_of m cells r.a) };
 
-    fn first<V: Algebra>(&self, cells: &[Option<V>]) -> Situation {
+    fn first<V: Algebra>(&self, kept: Kept<V>) -> Situation {
         Situation {
-            a: 0,
-            b: 0,
-            set: 0,
             wa: true,
-            wb: false,
+            ..Situation::default()
         }
     }
 
-    fn look<V: Algebra>(&self, cells: &[Option<V>], s: Situation) -> Tick<V> {
-        let hp = self.h.at(Row::Pause, cells, s.a);
-        let he = self.h.at(Row::Exit, cells, s.a);
-        let ap = self.a.at(Row::Pause, cells, s.b);
-        let ae = self.a.at(Row::Exit, cells, s.b);
+    fn look<V: Algebra>(&self, kept: Kept<V>, s: Situation) -> Tick<V> {
+        let hp = self.h.at(Row::Pause, kept, s.a);
+        let he = self.h.at(Row::Exit, kept, s.a);
+        let ap = self.a.at(Row::Pause, kept, s.b);
+        let ae = self.a.at(Row::Exit, kept, s.b);
         let pause = add(hp, ap);
         let cut = add(he, mark(s.wa));
         let ended = add(hp, ae);
@@ -44,9 +42,8 @@ impl RowRule for Abort {
         let next = Situation {
             a,
             b,
-            set: 0,
             wa: ap.is_some(),
-            wb: false,
+            ..Situation::default()
         };
         Tick { pause, exit, next }
     }

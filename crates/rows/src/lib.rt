@@ -2,6 +2,7 @@
 #![tactic(auto)]
 
 pub mod abort;
+pub mod cells;
 pub mod choice;
 pub mod fill;
 pub mod fork;
@@ -9,6 +10,7 @@ pub mod least;
 pub mod outcome;
 pub mod phases;
 pub mod piece;
+pub mod place;
 pub mod reading;
 pub mod repeat;
 pub mod rule;

@@ -30,15 +30,8 @@ impl Situations {
     pub fn new() -> Situations
         ensures { result.count ≡ 0 }
     {
-        let none = Situation {
-            a: 0,
-            b: 0,
-            set: 0,
-            wa: false,
-            wb: false,
-        };
         Situations {
-            items: [none; 1024],
+            items: [Situation::default(); 1024],
             heads: [0; 256],
             links: [0; 1024],
             count: 0,

@@ -5,6 +5,7 @@ ghost use Rattle.rows.specs.Sets.{has as has_member};
 ghost use Rattle.rows.specs.Rules.Rule.{situation as a_situation};
 ghost use Rattle.rows.specs.Rules.Table.{weights, reached, table as the_table};
 
+use crate::cells::Kept;
 use crate::rule::{RowRule, Tick};
 use crate::sets::{has, with};
 use crate::situation::Situation;
@@ -45,11 +46,8 @@ fn follow<V: Algebra>(arcs: &[Arc], set: u64) -> Tick<V>
         }
     }
     let next = Situation {
-        a: 0,
-        b: 0,
         set: states,
-        wa: false,
-        wb: false,
+        ..Situation::default()
     };
     Tick { pause, exit, next }
 }
@@ -59,17 +57,14 @@ impl RowRule for Table<'_> {
 
     ghost works = { λ r m cells. the_table m r.arcs.now };
 
-    fn first<V: Algebra>(&self, cells: &[Option<V>]) -> Situation {
+    fn first<V: Algebra>(&self, kept: Kept<V>) -> Situation {
         Situation {
-            a: 0,
-            b: 0,
             set: 1,
-            wa: false,
-            wb: false,
+            ..Situation::default()
         }
     }
 
-    fn look<V: Algebra>(&self, cells: &[Option<V>], s: Situation) -> Tick<V> {
+    fn look<V: Algebra>(&self, kept: Kept<V>, s: Situation) -> Tick<V> {
         follow(self.arcs, s.set)
     }
 }

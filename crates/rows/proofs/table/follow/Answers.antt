@@ -1,5 +1,4 @@
-use Rattle.std.proofs.Common.{ℕ, ◌+◌, true, false, sym, ap, ◌∙◌, rules}
-use Rattle.rows.specs.Rules.Rule.{situation}
+use Rattle.std.proofs.Common.{◌+◌, true, false, sym, ap, ◌∙◌, rules}
 use Rattle.algebra.specs.Model.{Laws}
 use Rattle.std.specs.Option.{option_map}
 use Rattle.rows.proofs.TableLaws.{followed_as, followed_stay, followed_out, followed_past, weights_all, reached_all}
@@ -41,5 +40,5 @@ returns g c =
     record {
       pause = weights_all m laws c.args.set true c.args.arcs.now c.loop-arc.arc-index (option_map f c.loop-arc.pause) all inv.stay;
       exit = weights_all m laws c.args.set false c.args.arcs.now c.loop-arc.arc-index (option_map f c.loop-arc.exit) all inv.out;
-      next = ap (λ (x : ℕ). situation 0 0 x false false) (reached_all c.args.set c.args.arcs.now c.loop-arc.arc-index c.loop-arc.states all inv.led);
+      next = let led = reached_all c.args.set c.args.arcs.now c.loop-arc.arc-index c.loop-arc.states all inv.led in search rules;
     }

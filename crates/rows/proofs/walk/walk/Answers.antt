@@ -9,22 +9,24 @@ pub returns-in-Some : goal.returns-in-Some
 returns-in-Some g c =
     let found = c.in-Some.ensures in
     let w = c.loop-n.invariant.0 in
-    let earlier : c.in-Some.i < c.loop-n.n = omega (arith, found.0) in
+    let earlier : c.in-Some.earlier < c.loop-n.n = omega (arith, found.0) in
     record {
       below = c.loop-n.invariant.2;
       past = c.loop-n.invariant.3;
-      cases = (c.loop-n-test.true, earlier, sym (w.seen c.in-Some.i (omega arith) earlier) ∙ found.1 ∙ w.here, w.fresh, λ k less. w.kept k (omega arith) less);
+      cases = (c.loop-n-test.true, earlier, sym (w.seen c.in-Some.earlier (omega arith) earlier) ∙ found.1 ∙ w.here, w.fresh, λ k less. w.kept k (omega arith) less);
     }
 
 pub loop-n-init : goal.loop-n-init
 loop-n-init g c = (
   record {
-    here = c.start-s.ensures.value;
+    here =
+        c.first-s.ensures.value
+        ∙ ap (λ cells. (g.R.RowRule.works c.args.rule.now g.V.Algebra.model (meanings g.V.Algebra.means cells)).first) c.kept.ensures;
     seen = λ k low less. absurd (omega arith);
     fresh = λ j k low less. absurd (omega arith);
     kept = λ k low less. absurd (omega arith);
   },
-  c.start-s.ensures.fits,
+  c.first-s.ensures.fits,
   refl,
   refl,
   c.new-seen.ensures,
@@ -35,20 +37,20 @@ loop-n-preserved g c =
     let m = g.V.Algebra.model in
     let f = g.V.Algebra.means in
     let over = λ (cs : List (Coef m)). g.R.RowRule.works c.args.rule.now m cs in
-    let rule = over (meanings f (take 2048 c.args.cells.now)) in
+    let rule = over (meanings f (take 2048 c.args.cells.now.lent.now)) in
     let n = c.loop-n.n in
-    let cells = c.loop-n.cells in
+    let cells = c.loop-n.cells.lent.now in
     let p = c.look-pause.result.pause in
     let e = c.look-pause.result.exit in
     let room : 4096 ≤ length cells = omega arith in
     let same = c.loop-n.invariant.2 in
-    let shelves = ap (meanings f) same in
+    let shelves = ap (meanings f) (c.kept-in-loop-n.ensures ∙ same) in
     let few = c.loop-n-test.true in
     let count = c.loop-n.invariant.4 in
     let items = c.loop-n.seen.items in
     let wrote = c.note.ensures in (
-      subst (λ xs. Walked rule (n + 1) c.look-pause.result.next xs (meanings f c.note.new.cells)) (sym (c.push.ensures.items ∙ ap (λ (k : ℕ). set items k c.loop-n.s) count))
-          (walked_more rule n c.loop-n.s c.look-pause.result.next items (meanings f cells) (meanings f c.note.new.cells) c.loop-n.invariant.0 (omega arith)
+      subst (λ xs. Walked rule (n + 1) c.look-pause.result.next xs (meanings f c.note.new.self.lent.now)) (sym (c.push.ensures.items ∙ ap (λ (k : ℕ). set items k c.loop-n.s) count))
+          (walked_more rule n c.loop-n.s c.look-pause.result.next items (meanings f cells) (meanings f c.note.new.self.lent.now) c.loop-n.invariant.0 (omega arith)
           (λ k less. c.in_default.ensures k (omega arith))
           (c.look-pause.ensures.next ∙ ap (λ cs. (over cs).next c.loop-n.s) shelves)
           (ap (λ xs. noted m (meanings f xs) n) wrote ∙ noted_now m f cells n p e room few

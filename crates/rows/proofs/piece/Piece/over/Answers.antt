@@ -1,8 +1,7 @@
 use Rattle.std.proofs.Common.{sym, ap, ◌∙◌}
 use Rattle.std.specs.Option.{option_map}
-use Rattle.algebra.specs.Coefficients.{join}
 use Rattle.rows.specs.Pieces.{rows_of, meanings, row}
-use Rattle.rows.specs.Sets.{has, joins}
+use Rattle.rows.specs.Sets.{has}
 use Rattle.rows.proofs.Walks.{joins_more, joins_past}
 use Rattle.rows.proofs.piece.Piece.over.Goals as goal
 use Rattle.rows.proofs.piece.Piece.over.Goals.{then-has, else-has}
@@ -11,7 +10,7 @@ pub loop-k-preserved : goal.loop-k-preserved
 loop-k-preserved g c =
     let m = g.V.Algebra.model in
     let f = g.V.Algebra.means in
-    let r = row (rows_of m (meanings f c.args.cells.now) c.args.self.now) c.args.row in
+    let r = row (rows_of m (meanings f c.args.kept.cells.now) c.args.self.now) c.args.row in
     let k = c.loop-k.k in
     elim c.if-has.branch [
       | then-has w ↦
