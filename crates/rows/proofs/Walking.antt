@@ -1,6 +1,7 @@
 -- One tick more of a walk.
-use Rattle.std.proofs.Common.{◌≡◌, ℕ, ◌+◌, ◌<◌, ◌≤◌, false, ◌≢◌, List, length, get_or, take, drop, set, None, Option, sym, ap, ◌∙◌, add-one, arith}
-use Rattle.std.proofs.lemmas.List.{length-set, length-map, map-set, get_or-set_same, get_or-set_other, take-set-le, drop-set-lt}
+use Rattle.std.proofs.Common.{◌≡◌, ℕ, ◌+◌, ◌<◌, ◌≤◌, false, ◌≢◌, List, [], ◌∷◌, ◌++◌, length, get_or, take, drop, set, None, Option, sym, ap, ◌∙◌, add-one, arith}
+use Rattle.std.proofs.Math.Seq.{get_or-append_seam}
+use Rattle.std.proofs.lemmas.List.{get_or_append_left, length-set, length-map, map-set, get_or-set_same, get_or-set_other, take-set-le, drop-set-lt}
 use Rattle.std.specs.Option.{option_map}
 use Rattle.algebra.specs.Model.{Model}
 use Rattle.algebra.specs.Coefficients.{Coef}
@@ -19,12 +20,12 @@ pub record Walked {m : Model} (rule : Rule m) (n : ℕ) (s : Situation) (situati
   pub kept : (k : ℕ) → 0 ≤ k → k < n → noted m cells k ≡ rows rule k
 
 module _ {m : Model} (rule : Rule m) (n : ℕ) (s next : Situation) (situations : List Situation) (cells more : List (Coef m)) where
-  pub walked_more : Walked rule n s situations cells → n < length situations → ((k : ℕ) → k < n → get_or situations k (situation 0 0 0 false false) ≡ s → ⊥) → next ≡ rule.next s → noted m more n ≡ (rule.pause s, rule.exit s) → ((k : ℕ) → k < n → noted m more k ≡ noted m cells k) → Walked rule (n + 1) next (set situations n s) more
+  pub walked_more : Walked rule n s situations cells → n ≡ length situations → ((k : ℕ) → k < n → get_or situations k (situation 0 0 0 false false) ≡ s → ⊥) → next ≡ rule.next s → noted m more n ≡ (rule.pause s, rule.exit s) → ((k : ℕ) → k < n → noted m more k ≡ noted m cells k) → Walked rule (n + 1) next (situations ++ s ∷ []) more
   walked_more w room unseen follows now before = record {
     here = follows ∙ ap rule.next w.here ∙ ap (at rule) (sym (add-one n));
     seen = up_to _ 0 n
-        (λ k low less. let other : k ≢ n = omega arith in get_or-set_other situations n k s _ other ∙ w.seen k low less)
-        (get_or-set_same situations n s _ room ∙ w.here);
+        (λ k low less. get_or_append_left situations (s ∷ []) _ k (omega arith) ∙ w.seen k low less)
+        (ap (λ (k : ℕ). get_or (situations ++ s ∷ []) k (situation 0 0 0 false false)) room ∙ get_or-append_seam situations s [] _ ∙ w.here);
     fresh = λ j k less upto.
         up_to (λ k'. (j' : ℕ) → j' < k' → at rule j' ≡ at rule k' → ⊥) 0 n
         (λ k' low less' j' l. w.fresh j' k' l less')

@@ -7,6 +7,7 @@ pub mod choice;
 pub mod fill;
 pub mod fork;
 pub mod least;
+pub mod noted;
 pub mod outcome;
 pub mod phases;
 pub mod piece;

@@ -1,22 +1,19 @@
 // The situations of a walk, each with its number, linked in chains by a small hash.
-ghost use Rattle.std.specs.Prelude.{◌≡◌, ℕ, ◌+◌, ◌<◌, ◌≤◌, length, set, MatchOption};
-ghost use Rattle.rows.specs.Chains.{chain as chain_of, nth, Heads, Links};
+ghost use Rattle.std.specs.Prelude.{◌≡◌, ℕ, ◌<◌, [], ◌∷◌, ◌++◌, length, MatchOption};
+ghost use Rattle.rows.specs.Chains.{chain as chain_of, situations, nth, Heads, Links};
 
+use crate::noted::Noted;
 use crate::situation::Situation;
+use arrayvec::ArrayVec;
 
-// Of the items the first `count` are noted. A head or a link is 1 + a number, or 0 for none.
 #[derive(Drop)]
 pub struct Situations {
-    pub items: [Situation; 1024],
-    heads: [u16; 256],
-    links: [u16; 1024],
-    pub count: usize,
-    ghost room: { count ≤ 1024 },
-    ghost items_long: { length items ≡ 1024 },
-    ghost heads_long: { length heads ≡ 256 },
-    ghost links_long: { length links ≡ 1024 },
-    ghost headed: { Heads items heads count },
-    ghost linked: { Links items links count },
+    pub noted: ArrayVec<Noted, 1024>,
+    // the newest number of each chain
+    newest: [Option<u16>; 256],
+    ghost heads_long: { length newest ≡ 256 },
+    ghost headed: { Heads noted.items newest },
+    ghost linked: { Links noted.items },
 }
 
 // The chain of a situation: any function of it would do, and this one spreads pairs of phases and sets of states.
@@ -28,39 +25,40 @@ fn chain(s: Situation) -> usize
 
 impl Situations {
     pub fn new() -> Situations
-        ensures { result.count ≡ 0 }
+        ensures { result.noted.items ≡ [] }
     {
         Situations {
-            items: [Situation::default(); 1024],
-            heads: [0; 256],
-            links: [0; 1024],
-            count: 0,
+            noted: ArrayVec::new(),
+            newest: [None; 256],
         }
     }
 
     // The number of a situation that equals s.
     pub fn find(&self, s: Situation) -> Option<usize>
-        ensures { MatchOption result ((k : ℕ) → k < self.now.count → nth self.now.items k ≡ s → ⊥) (λ i. (i < self.now.count) × (nth self.now.items i ≡ s)) }
+        ensures { MatchOption result ((k : ℕ) → k < length self.now.noted.items → nth self.now.noted.items k ≡ s → ⊥) (λ i. (i < length self.now.noted.items) × (nth self.now.noted.items i ≡ s)) }
     {
-        let mut k = self.heads[chain(s)] as usize;
-        while k > 0 {
-            if self.items[k - 1] == s {
-                return Some(k - 1);
+        let mut next = self.newest[chain(s)];
+        while let Some(number) = next {
+            let k = number as usize;
+            let noted = self.noted[k];
+            if noted.situation == s {
+                return Some(k);
             }
-            k = self.links[k - 1] as usize;
+            next = noted.before;
         }
         None
     }
 
     pub fn push(&mut self, s: Situation)
-        requires { self.old.count < 1024 }
-        ensures items { self.new.items ≡ set self.old.items self.old.count s }
-        ensures count { self.new.count ≡ self.old.count + 1 }
+        requires { length self.old.noted.items < 1024 }
+        ensures { situations self.new.noted.items ≡ situations self.old.noted.items ++ s ∷ [] }
     {
         let h = chain(s);
-        self.items[self.count] = s;
-        self.links[self.count] = self.heads[h];
-        self.count += 1;
-        self.heads[h] = self.count as u16;
+        let number = self.noted.len() as u16;
+        self.noted.push(Noted {
+            situation: s,
+            before: self.newest[h],
+        });
+        self.newest[h] = Some(number);
     }
 }
