@@ -1,7 +1,7 @@
 -- One situation more in the chains, and the way along one of them.
 use Rattle.std.proofs.Common.{◌≡◌, ℕ, zero, suc, ◌+◌, ◌<◌, ◌≤◌, false, cond, eqb, ◌≢◌, List, [], ◌∷◌, ◌++◌, length, get_or, set, Option, Some, None, sym, refl, ap, ◌∙◌, subst, ⊎_elim, arith, length-append}
 use Rattle.std.proofs.Math.Seq.{get_or-append_seam}
-use Rattle.std.proofs.lemmas.List.{get_or-set_same, get_or-set_other, get_or_append_left, length-map}
+use Rattle.std.proofs.lemmas.List.{get_or-set_same, get_or-set_other, get_or_append_left, length-map, map-append}
 use Rattle.std.proofs.lemmas.Bool.{cases_eq, cond-true, cond-false, cond_both, eq-eqb, ne_eqb, eqb-true, eqb-false}
 use Rattle.rows.specs.declared.noted.Noted.{Noted}
 use Rattle.rows.specs.declared.situation.Situation.{Situation}
@@ -90,10 +90,6 @@ module _ (read noted : List Noted) (k : ℕ) (is : read ≡ noted) (less : k < l
   pub reads_before : Links noted → (get_or read k blank).before ≡ newest noted k (chain (nth noted k))
   reads_before linked = ap (λ (xs : List Noted). (get_or xs k blank).before) is ∙ linked k blank less
 
-map_more : (noted : List Noted) (x : Noted) → situations (noted ++ x ∷ []) ≡ situations noted ++ x.situation ∷ []
-map_more [] x = refl
-map_more (y ∷ noted) x = ap (λ xs. y.situation ∷ xs) (map_more noted x)
-
 pub length-situations : (noted : List Noted) → length (situations noted) ≡ length noted
 length-situations noted = simp length-map
 
@@ -103,17 +99,17 @@ count_more noted more s e is =
     omega (arith, ap length e, length-append (situations noted) (s ∷ []), length-situations noted, length-situations more)
 
 module _ (noted : List Noted) (x : Noted) where
-  pub situations_more : situations (noted ++ x ∷ []) ≡ situations noted ++ x.situation ∷ []
-  situations_more = map_more noted x
+  situations_more : situations (noted ++ x ∷ []) ≡ situations noted ++ x.situation ∷ []
+  situations_more = map-append (λ n. n.situation) noted (x ∷ [])
 
   old_item : (k : ℕ) → k < length noted → nth (noted ++ x ∷ []) k ≡ nth noted k
   old_item k less =
-      ap (λ xs. get_or xs k (situation 0 0 0 false false)) (map_more noted x)
+      ap (λ xs. get_or xs k (situation 0 0 0 false false)) situations_more
       ∙ get_or_append_left (situations noted) (x.situation ∷ []) _ k (omega (arith, length-situations noted))
 
   new_item : nth (noted ++ x ∷ []) (length noted) ≡ x.situation
   new_item =
-      ap (λ xs. get_or xs (length noted) (situation 0 0 0 false false)) (map_more noted x)
+      ap (λ xs. get_or xs (length noted) (situation 0 0 0 false false)) situations_more
       ∙ ap (λ (k : ℕ). get_or (situations noted ++ x.situation ∷ []) k (situation 0 0 0 false false)) (sym (length-situations noted))
       ∙ get_or-append_seam (situations noted) x.situation [] _
 

@@ -27,6 +27,7 @@ impl Piece {
         ensures { option_map V.means result ≡ joins V.model (has_member set) (row_of (rows_of V.model (meanings V.means kept.entry.cells.now) self.now) row) (size (rows_of V.model (meanings V.means kept.entry.cells.now) self.now)) }
     {
         let mut all = None;
+        // a for, not a fold: in closures `at` would ask for the bound of k again
         for k in 0..self.shape.size() {
             if has(set, k) {
                 all = join(all, self.at(row, kept, k));
@@ -40,6 +41,7 @@ impl Piece {
         ensures { result ≡ phases_after (rows_of V.model (meanings V.means kept.entry.cells.now) self.now) set }
     {
         let mut after = 0;
+        // a for, not a fold: in closures `at` and `after` would ask for the bound of k again
         for k in 0..self.shape.size() {
             if has(set, k) && self.at(Row::Pause, kept, k).is_some() {
                 after = with(after, self.shape.after(k));

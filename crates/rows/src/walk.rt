@@ -32,6 +32,7 @@ pub fn walk<R: RowRule, V: Algebra>(rule: &R, cells: &mut Cells<V>) -> Option<Tu
 {
     let mut seen = Situations::new();
     let mut s = rule.first(cells.kept());
+    // n is the number that is answered and the tick that is noted
     for n in 0..1024 {
         if let Some(earlier) = seen.find(s) {
             return Some(Turn { number: n, earlier });
