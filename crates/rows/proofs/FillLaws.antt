@@ -1,40 +1,35 @@
--- One phase more of a shelf that is filled.
-use Rattle.std.proofs.Common.{◌≡◌, ℕ, ◌+◌, ◌*◌, ◌<◌, ◌≤◌, cond, ltb, ◌≢◌, ◌⊎◌, List, length, get_or, set, None, Option, ap, ◌∙◌, inr, ⊎_elim, arith}
-use Rattle.std.proofs.lemmas.List.{length-set, get_or-set_same, get_or-set_other}
-use Rattle.rows.specs.Filled.{kept_at}
-use Rattle.rows.proofs.Ranges.{up_to}
+-- A shelf whose two rows are filled.
+use Rattle.std.proofs.Common.{◌≡◌, ℕ, ◌+◌, ◌*◌, ◌<◌, ◌≤◌, cond, ltb, ◌⊎◌, List, length, get_or, min, None, Option, sym, ap, ◌∙◌, inl, inr, ⊎_elim, arith}
+use Rattle.std.proofs.lemmas.Bool.{cases_lt, cond-true, cond-false, lt-ltb, le-ltb}
+use Rattle.rows.specs.Filled.{kept_at, Filled}
 
-module _ {X : Type 0} (before : List (Option X)) (shelf size : ℕ) where
-  -- the first n phases are filled
-  pub record Filling (n : ℕ) (cells : List (Option X)) : Type 0 where
-    pub len : length cells ≡ length before
-    pub pauses : (k : ℕ) → 0 ≤ k → k < n → get_or cells (128 * shelf + k) None ≡ kept_at before 2048 size k
-    pub exits : (k : ℕ) → 0 ≤ k → k < n → get_or cells (128 * shelf + 64 + k) None ≡ kept_at before 3072 size k
-    pub others : (j : ℕ) → (j < 128 * shelf) ⊎ (128 * shelf + 128 ≤ j) → get_or cells j None ≡ get_or before j None
+-- a row at its place, absent from the size on; every other cell is as it was
+pub record RowFilled {X : Type 0} (before after : List (Option X)) (at from size : ℕ) : Type 0 where
+  pub len : length after ≡ length before
+  pub row : (k : ℕ) → k < 64 → get_or after (at + k) None ≡ kept_at before from size k
+  pub others : (j : ℕ) → (j < at) ⊎ (at + 64 ≤ j) → get_or after j None ≡ get_or before j None
 
-  module _ (room : 4096 ≤ length before) (low : shelf ≤ 15) where
-    -- the working cells are not the shelf's
-    pub keeps_before : (n : ℕ) (cells : List (Option X)) → Filling n cells → (from k : ℕ) → 2048 ≤ from → kept_at cells from size k ≡ kept_at before from size k
-    keeps_before n cells f from k far =
-        ap (λ x. cond (ltb k size) x None) (f.others (from + k) (inr (omega arith)))
+-- for the 64 phases of a shelf a size past 64 is as good as 64
+kept_up_to : {X : Type 0} (cells : List (Option X)) (from size k : ℕ) → k < 64 → kept_at cells from (min size 64) k ≡ kept_at cells from size k
+kept_up_to cells from size k less = ⊎_elim
+    (λ near. cond-true (ltb k (min size 64)) _ _ (lt-ltb k (min size 64) (omega arith)) ∙ sym (cond-true (ltb k size) _ _ (lt-ltb k size near)))
+    (λ past. cond-false (ltb k (min size 64)) _ _ (le-ltb k (min size 64) (omega arith)) ∙ sym (cond-false (ltb k size) _ _ (le-ltb k size past)))
+    (cases_lt k size)
 
-    pub filling_more : (n : ℕ) (cells : List (Option X)) (p e : Option X) → n < 64 → Filling n cells → p ≡ kept_at cells 2048 size n → e ≡ kept_at cells 3072 size n → Filling (n + 1) (set (set cells (128 * shelf + n) p) (128 * shelf + 64 + n) e)
-    filling_more n cells p e few f pause exit = record {
-      len = length-set _ (128 * shelf + 64 + n) e ∙ length-set cells (128 * shelf + n) p ∙ f.len;
-      pauses = up_to _ 0 n
-          (λ k zero less. other (128 * shelf + k) (omega arith) (omega arith) ∙ f.pauses k zero less)
-          (get_or-set_other _ (128 * shelf + 64 + n) (128 * shelf + n) e None (omega arith)
-          ∙ get_or-set_same cells (128 * shelf + n) p None (omega (arith, f.len))
-          ∙ pause ∙ keeps_before n cells f 2048 n (omega arith));
-      exits = up_to _ 0 n
-          (λ k zero less. other (128 * shelf + 64 + k) (omega arith) (omega arith) ∙ f.exits k zero less)
-          (get_or-set_same (set cells (128 * shelf + n) p) (128 * shelf + 64 + n) e None (omega (arith, f.len, length-set cells (128 * shelf + n) p))
-          ∙ exit ∙ keeps_before n cells f 3072 n (omega arith));
-      others = λ j out. ⊎_elim
-          (λ h. other j (omega arith) (omega arith))
-          (λ h. other j (omega arith) (omega arith))
-          out ∙ f.others j out;
-    }
-      where
-        other : (j : ℕ) → j ≢ 128 * shelf + n → j ≢ 128 * shelf + 64 + n → get_or (set (set cells (128 * shelf + n) p) (128 * shelf + 64 + n) e) j None ≡ get_or cells j None
-        other j ne ne' = get_or-set_other _ (128 * shelf + 64 + n) j e None ne' ∙ get_or-set_other cells (128 * shelf + n) j p None ne
+-- the working cells of a row are none of the shelf's
+kept_still : {X : Type 0} (before between : List (Option X)) (at from size k : ℕ) → at + 64 ≤ from → ((j : ℕ) → (j < at) ⊎ (at + 64 ≤ j) → get_or between j None ≡ get_or before j None) → kept_at between from size k ≡ kept_at before from size k
+kept_still before between at from size k far others = ap (λ x. cond (ltb k size) x None) (others (from + k) (inr (omega arith)))
+
+-- pause in the first 64 cells of a shelf and then exit in the other 64 fill it
+pub both_filled : {X : Type 0} (before between after : List (Option X)) (shelf size few : ℕ) → shelf ≤ 15 → few ≡ min size 64 → RowFilled before between (128 * shelf) 2048 few → RowFilled between after (128 * shelf + 64) 3072 few → Filled before after shelf size
+both_filled before between after shelf size few low is pause exit = record {
+  len = exit.len ∙ pause.len;
+  pauses = λ k less.
+      exit.others (128 * shelf + k) (inl (omega arith)) ∙ pause.row k less ∙ ap (λ (n : ℕ). kept_at before 2048 n k) is ∙ kept_up_to before 2048 size k less;
+  exits = λ k less.
+      exit.row k less ∙ kept_still before between (128 * shelf) 3072 few k (omega arith) pause.others ∙ ap (λ (n : ℕ). kept_at before 3072 n k) is ∙ kept_up_to before 3072 size k less;
+  others = λ j out. ⊎_elim
+      (λ h. exit.others j (inl (omega arith)) ∙ pause.others j (inl h))
+      (λ h. exit.others j (inr (omega arith)) ∙ pause.others j (inr (omega arith)))
+      out;
+}

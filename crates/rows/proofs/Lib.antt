@@ -1,5 +1,5 @@
 pub mod PhaseLaws
-pub mod Cells
+pub mod Meanings
 pub mod Walks
 pub mod SetLaws
 pub mod TableLaws
@@ -8,4 +8,7 @@ pub mod Ranges
 pub mod Walking
 pub mod Parts
 pub mod FillLaws
+pub mod Shapes
+pub mod Backwards
 pub mod Unrolling
+pub mod Chaining

@@ -1,5 +1,5 @@
 -- What holds of every number of a range, one number more.
-use Rattle.std.proofs.Common.{ℕ, ◌+◌, ◌-◌, ◌<◌, ◌≤◌, sym, subst, ⊎_elim, arith}
+use Rattle.std.proofs.Common.{ℕ, ◌+◌, ◌<◌, ◌≤◌, sym, subst, ⊎_elim, arith}
 use Rattle.std.proofs.lemmas.Bool.{cases_eq}
 
 -- one more at the end
@@ -8,10 +8,3 @@ up_to P i k below here j low high = ⊎_elim
     (λ e. subst P (sym e) here)
     (λ ne. below j low (omega arith))
     (cases_eq j k)
-
--- one more at the start
-pub down_to : (P : ℕ → Type 0) (k n : ℕ) → ((j : ℕ) → k ≤ j → j < n → P j) → P (k - 1) → (j : ℕ) → k - 1 ≤ j → j < n → P j
-down_to P k n above here j low high = ⊎_elim
-    (λ e. subst P (sym e) here)
-    (λ ne. above j (omega arith) high)
-    (cases_eq j (k - 1))

@@ -1,6 +1,7 @@
 -- One tick more of a walk.
-use Rattle.std.proofs.Common.{◌≡◌, ℕ, ◌+◌, ◌<◌, ◌≤◌, false, ◌≢◌, List, length, get_or, take, drop, set, None, Option, sym, ap, ◌∙◌, add-one, arith}
-use Rattle.std.proofs.lemmas.List.{length-set, length-map, map-set, get_or-set_same, get_or-set_other, take-set-le, drop-set-lt}
+use Rattle.std.proofs.Common.{◌≡◌, ℕ, ◌+◌, ◌<◌, ◌≤◌, false, ◌≢◌, List, [], ◌∷◌, ◌++◌, length, get_or, take, drop, set, None, Option, sym, ap, ◌∙◌, add-one, arith}
+use Rattle.std.proofs.Math.Seq.{get_or-append_seam}
+use Rattle.std.proofs.lemmas.List.{get_or_append_left, length-set, length-map, map-set, get_or-set_same, get_or-set_other, take-set-le, drop-set-lt}
 use Rattle.std.specs.Option.{option_map}
 use Rattle.algebra.specs.Model.{Model}
 use Rattle.algebra.specs.Coefficients.{Coef}
@@ -14,19 +15,17 @@ use Rattle.rows.proofs.Ranges.{up_to}
 -- n ticks of a rule are noted, and s is the situation at tick n
 pub record Walked {m : Model} (rule : Rule m) (n : ℕ) (s : Situation) (situations : List Situation) (cells : List (Coef m)) : Type 0 where
   pub here : s ≡ at rule n
-  pub long : length situations ≡ 1024
   pub seen : (k : ℕ) → 0 ≤ k → k < n → get_or situations k (situation 0 0 0 false false) ≡ at rule k
   pub fresh : NoRepeat (at rule) n
   pub kept : (k : ℕ) → 0 ≤ k → k < n → noted m cells k ≡ rows rule k
 
 module _ {m : Model} (rule : Rule m) (n : ℕ) (s next : Situation) (situations : List Situation) (cells more : List (Coef m)) where
-  pub walked_more : Walked rule n s situations cells → n < 1024 → ((k : ℕ) → k < n → get_or situations k (situation 0 0 0 false false) ≡ s → ⊥) → next ≡ rule.next s → noted m more n ≡ (rule.pause s, rule.exit s) → ((k : ℕ) → k < n → noted m more k ≡ noted m cells k) → Walked rule (n + 1) next (set situations n s) more
-  walked_more w few unseen follows now before = record {
+  pub walked_more : Walked rule n s situations cells → n ≡ length situations → ((k : ℕ) → k < n → get_or situations k (situation 0 0 0 false false) ≡ s → ⊥) → next ≡ rule.next s → noted m more n ≡ (rule.pause s, rule.exit s) → ((k : ℕ) → k < n → noted m more k ≡ noted m cells k) → Walked rule (n + 1) next (situations ++ s ∷ []) more
+  walked_more w room unseen follows now before = record {
     here = follows ∙ ap rule.next w.here ∙ ap (at rule) (sym (add-one n));
-    long = length-set situations n s ∙ w.long;
     seen = up_to _ 0 n
-        (λ k low less. let other : k ≢ n = omega arith in get_or-set_other situations n k s _ other ∙ w.seen k low less)
-        (get_or-set_same situations n s _ (omega (arith, w.long)) ∙ w.here);
+        (λ k low less. get_or_append_left situations (s ∷ []) _ k (omega arith) ∙ w.seen k low less)
+        (ap (λ (k : ℕ). get_or (situations ++ s ∷ []) k (situation 0 0 0 false false)) room ∙ get_or-append_seam situations s [] _ ∙ w.here);
     fresh = λ j k less upto.
         up_to (λ k'. (j' : ℕ) → j' < k' → at rule j' ≡ at rule k' → ⊥) 0 n
         (λ k' low less' j' l. w.fresh j' k' l less')

@@ -7,3 +7,4 @@ pub mod Search
 pub mod Filled
 pub mod Unrolled
 pub mod Outcomes
+pub mod Chains

@@ -60,4 +60,4 @@ on_shelf m cells shelf transient period = record {
 
 -- the rows of a piece
 abbrev pub rows_of : (m : Model) → List (Coef m) → Piece → Rows m
-rows_of m cells a = on_shelf m cells a.shelf a.shape.transient a.shape.period
+rows_of m cells a = on_shelf m cells a.place.shelf a.shape.transient a.shape.period

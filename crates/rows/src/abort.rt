@@ -3,8 +3,9 @@ ghost use Rattle.std.specs.Prelude.{◌+◌, ◌<◌};
 ghost use Rattle.rows.specs.Pieces.{rows_of};
 ghost use Rattle.rows.specs.Rules.Abort.{abort as the_abort};
 
+use crate::cells::Kept;
 use crate::piece::{Piece, Row};
-use crate::rule::RowRule;
+use crate::rule::{RowRule, Tick};
 use crate::situation::Situation;
 use algebra::algebra::Algebra;
 use algebra::coefficient::{add, join, mark};
@@ -20,42 +21,30 @@ impl RowRule for Abort {
 
     ghost works = { λ r m cells. the_abort m (rows_of m cells r.h) (rows_of m cells r.a) };
 
-    fn first<V: Algebra>(&self, cells: &[Option<V>]) -> Situation {
+    fn first<V: Algebra>(&self, kept: Kept<V>) -> Situation {
         Situation {
-            a: 0,
-            b: 0,
-            set: 0,
             wa: true,
-            wb: false,
+            ..Situation::default()
         }
     }
 
-    fn pause<V: Algebra>(&self, cells: &[Option<V>], s: Situation) -> Option<V> {
-        add(
-            self.h.at(Row::Pause, cells, s.a),
-            self.a.at(Row::Pause, cells, s.b),
-        )
-    }
-
-    fn exit<V: Algebra>(&self, cells: &[Option<V>], s: Situation) -> Option<V> {
-        let cut = add(self.h.at(Row::Exit, cells, s.a), mark(s.wa));
-        let ended = add(
-            self.h.at(Row::Pause, cells, s.a),
-            self.a.at(Row::Exit, cells, s.b),
-        );
-        join(cut, ended)
-    }
-
-    fn next<V: Algebra>(&self, cells: &[Option<V>], s: Situation) -> Situation {
-        let wa = self.a.at(Row::Pause, cells, s.b).is_some();
+    fn look<V: Algebra>(&self, kept: Kept<V>, s: Situation) -> Tick<V> {
+        let hp = self.h.at(Row::Pause, kept, s.a);
+        let he = self.h.at(Row::Exit, kept, s.a);
+        let ap = self.a.at(Row::Pause, kept, s.b);
+        let ae = self.a.at(Row::Exit, kept, s.b);
+        let pause = add(hp, ap);
+        let cut = add(he, mark(s.wa));
+        let ended = add(hp, ae);
+        let exit = join(cut, ended);
         let a = self.h.shape.after(s.a);
         let b = self.a.shape.after(s.b);
-        Situation {
+        let next = Situation {
             a,
             b,
-            set: 0,
-            wa,
-            wb: false,
-        }
+            wa: ap.is_some(),
+            ..Situation::default()
+        };
+        Tick { pause, exit, next }
     }
 }

@@ -3,8 +3,9 @@ ghost use Rattle.std.specs.Prelude.{◌+◌, ◌<◌};
 ghost use Rattle.rows.specs.Pieces.{rows_of};
 ghost use Rattle.rows.specs.Rules.Choice.{choice as the_choice};
 
+use crate::cells::Kept;
 use crate::piece::{Piece, Row};
-use crate::rule::RowRule;
+use crate::rule::{RowRule, Tick};
 use crate::situation::Situation;
 use algebra::algebra::Algebra;
 use algebra::coefficient::join;
@@ -20,39 +21,24 @@ impl RowRule for Choice {
 
     ghost works = { λ r m cells. the_choice m (rows_of m cells r.a) (rows_of m cells r.b) };
 
-    fn first<V: Algebra>(&self, cells: &[Option<V>]) -> Situation {
-        Situation {
-            a: 0,
-            b: 0,
-            set: 0,
-            wa: false,
-            wb: false,
-        }
+    fn first<V: Algebra>(&self, kept: Kept<V>) -> Situation {
+        Situation::default()
     }
 
-    fn pause<V: Algebra>(&self, cells: &[Option<V>], s: Situation) -> Option<V> {
-        join(
-            self.a.at(Row::Pause, cells, s.a),
-            self.b.at(Row::Pause, cells, s.b),
-        )
-    }
-
-    fn exit<V: Algebra>(&self, cells: &[Option<V>], s: Situation) -> Option<V> {
-        join(
-            self.a.at(Row::Exit, cells, s.a),
-            self.b.at(Row::Exit, cells, s.b),
-        )
-    }
-
-    fn next<V: Algebra>(&self, cells: &[Option<V>], s: Situation) -> Situation {
+    fn look<V: Algebra>(&self, kept: Kept<V>, s: Situation) -> Tick<V> {
+        let ap = self.a.at(Row::Pause, kept, s.a);
+        let ae = self.a.at(Row::Exit, kept, s.a);
+        let bp = self.b.at(Row::Pause, kept, s.b);
+        let be = self.b.at(Row::Exit, kept, s.b);
+        let pause = join(ap, bp);
+        let exit = join(ae, be);
         let a = self.a.shape.after(s.a);
         let b = self.b.shape.after(s.b);
-        Situation {
+        let next = Situation {
             a,
             b,
-            set: 0,
-            wa: false,
-            wb: false,
-        }
+            ..Situation::default()
+        };
+        Tick { pause, exit, next }
     }
 }

@@ -3,8 +3,9 @@ ghost use Rattle.std.specs.Prelude.{◌+◌, ◌<◌};
 ghost use Rattle.rows.specs.Pieces.{rows_of};
 ghost use Rattle.rows.specs.Rules.Fork.{fork as the_fork};
 
+use crate::cells::Kept;
 use crate::piece::{Piece, Row};
-use crate::rule::RowRule;
+use crate::rule::{RowRule, Tick};
 use crate::situation::Situation;
 use algebra::algebra::Algebra;
 use algebra::coefficient::{add, join, mark};
@@ -20,44 +21,29 @@ impl RowRule for Fork {
 
     ghost works = { λ r m cells. the_fork m (rows_of m cells r.a) (rows_of m cells r.b) };
 
-    fn first<V: Algebra>(&self, cells: &[Option<V>]) -> Situation {
-        Situation {
-            a: 0,
-            b: 0,
-            set: 0,
-            wa: false,
-            wb: false,
-        }
+    fn first<V: Algebra>(&self, kept: Kept<V>) -> Situation {
+        Situation::default()
     }
 
-    fn pause<V: Algebra>(&self, cells: &[Option<V>], s: Situation) -> Option<V> {
-        let ap = self.a.at(Row::Pause, cells, s.a);
-        let ae = self.a.at(Row::Exit, cells, s.a);
-        let bp = self.b.at(Row::Pause, cells, s.b);
-        let be = self.b.at(Row::Exit, cells, s.b);
-        join(
+    fn look<V: Algebra>(&self, kept: Kept<V>, s: Situation) -> Tick<V> {
+        let ap = self.a.at(Row::Pause, kept, s.a);
+        let ae = self.a.at(Row::Exit, kept, s.a);
+        let bp = self.b.at(Row::Pause, kept, s.b);
+        let be = self.b.at(Row::Exit, kept, s.b);
+        let pause = join(
             add(ap, join(join(bp, be), mark(s.wb))),
             add(join(ae, mark(s.wa)), bp),
-        )
-    }
-
-    fn exit<V: Algebra>(&self, cells: &[Option<V>], s: Situation) -> Option<V> {
-        let ae = self.a.at(Row::Exit, cells, s.a);
-        let be = self.b.at(Row::Exit, cells, s.b);
-        join(add(ae, join(be, mark(s.wb))), add(mark(s.wa), be))
-    }
-
-    fn next<V: Algebra>(&self, cells: &[Option<V>], s: Situation) -> Situation {
-        let wa = s.wa | self.a.at(Row::Exit, cells, s.a).is_some();
-        let wb = s.wb | self.b.at(Row::Exit, cells, s.b).is_some();
+        );
+        let exit = join(add(ae, join(be, mark(s.wb))), add(mark(s.wa), be));
         let a = self.a.shape.after(s.a);
         let b = self.b.shape.after(s.b);
-        Situation {
+        let next = Situation {
             a,
             b,
-            set: 0,
-            wa,
-            wb,
-        }
+            wa: s.wa | ae.is_some(),
+            wb: s.wb | be.is_some(),
+            ..Situation::default()
+        };
+        Tick { pause, exit, next }
     }
 }

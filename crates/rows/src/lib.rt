@@ -2,13 +2,16 @@
 #![tactic(auto)]
 
 pub mod abort;
+pub mod cells;
 pub mod choice;
 pub mod fill;
 pub mod fork;
 pub mod least;
+pub mod noted;
 pub mod outcome;
 pub mod phases;
 pub mod piece;
+pub mod place;
 pub mod reading;
 pub mod repeat;
 pub mod rule;
@@ -16,6 +19,7 @@ pub mod sequence;
 pub mod sets;
 pub mod shape;
 pub mod situation;
+pub mod situations;
 pub mod table;
 pub mod unroll;
 pub mod walk;

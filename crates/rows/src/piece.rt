@@ -1,16 +1,14 @@
-// A piece: the shelf that keeps its two rows, and their shape.
-ghost use Rattle.std.specs.Prelude.{◌≤◌};
-
+// A piece: the place that keeps its two rows, and their shape.
+use crate::place::Place;
 use crate::shape::Shape;
 
-#[derive(Clone, Copy)]
+#[derive(Clone, Copy, Debug, PartialEq, Eq)]
 pub struct Piece {
-    pub shelf: usize,
+    pub place: Place,
     pub shape: Shape,
-    ghost within: { shelf ≤ 15 },
 }
 
-#[derive(Clone, Copy)]
+#[derive(Clone, Copy, Debug, PartialEq, Eq)]
 pub enum Row {
     Pause,
     Exit,

@@ -1,9 +1,10 @@
 // Reading a piece's coefficients from the cells, and joining or moving a set of its phases.
-ghost use Rattle.std.specs.Prelude.{◌≡◌, ◌+◌, ◌<◌, ◌≤◌, length};
+ghost use Rattle.std.specs.Prelude.{◌≡◌, ◌+◌, ◌<◌};
 ghost use Rattle.std.specs.Option.{option_map};
 ghost use Rattle.rows.specs.Pieces.{rows_of, meanings, row as row_of, size, moved as phases_after};
 ghost use Rattle.rows.specs.Sets.{has as has_member, joins};
 
+use crate::cells::Kept;
 use crate::piece::{Piece, Row};
 use crate::sets::{has, with};
 use algebra::algebra::Algebra;
@@ -11,39 +12,38 @@ use algebra::coefficient::join;
 
 impl Piece {
     // The coefficient of a row at phase k.
-    pub fn at<V: Algebra>(&self, row: Row, cells: &[Option<V>], k: usize) -> Option<V>
-        requires phase { k < self.now.shape.transient + self.now.shape.period }
-        requires room { 2048 ≤ length cells.now }
-        ensures { option_map V.means result ≡ row_of (rows_of V.model (meanings V.means cells.now) self.now) row k }
+    pub fn at<V: Algebra>(&self, row: Row, kept: Kept<V>, k: usize) -> Option<V>
+        requires { k < self.now.shape.transient + self.now.shape.period }
+        ensures { option_map V.means result ≡ row_of (rows_of V.model (meanings V.means kept.entry.cells.now) self.now) row k }
     {
         match row {
-            Row::Pause => cells[128 * self.shelf + k],
-            Row::Exit => cells[128 * self.shelf + 64 + k],
+            Row::Pause => kept.cells[128 * self.place.shelf + k],
+            Row::Exit => kept.cells[128 * self.place.shelf + 64 + k],
         }
     }
 
     // The join of a row's coefficients over a set of phases.
-    pub fn over<V: Algebra>(&self, row: Row, cells: &[Option<V>], set: u64) -> Option<V>
-        requires { 2048 ≤ length cells.now }
-        ensures { option_map V.means result ≡ joins V.model (has_member set) (row_of (rows_of V.model (meanings V.means cells.now) self.now) row) (size (rows_of V.model (meanings V.means cells.now) self.now)) }
+    pub fn over<V: Algebra>(&self, row: Row, kept: Kept<V>, set: u64) -> Option<V>
+        ensures { option_map V.means result ≡ joins V.model (has_member set) (row_of (rows_of V.model (meanings V.means kept.entry.cells.now) self.now) row) (size (rows_of V.model (meanings V.means kept.entry.cells.now) self.now)) }
     {
         let mut all = None;
+        // a for, not a fold: in closures `at` would ask for the bound of k again
         for k in 0..self.shape.size() {
             if has(set, k) {
-                all = join(all, self.at(row, cells, k));
+                all = join(all, self.at(row, kept, k));
             }
         }
         all
     }
 
     // The phase after each member of a set at which pause is present.
-    pub fn moved<V: Algebra>(&self, cells: &[Option<V>], set: u64) -> u64
-        requires { 2048 ≤ length cells.now }
-        ensures { result ≡ phases_after (rows_of V.model (meanings V.means cells.now) self.now) set }
+    pub fn moved<V: Algebra>(&self, kept: Kept<V>, set: u64) -> u64
+        ensures { result ≡ phases_after (rows_of V.model (meanings V.means kept.entry.cells.now) self.now) set }
     {
         let mut after = 0;
+        // a for, not a fold: in closures `at` and `after` would ask for the bound of k again
         for k in 0..self.shape.size() {
-            if has(set, k) && self.at(Row::Pause, cells, k).is_some() {
+            if has(set, k) && self.at(Row::Pause, kept, k).is_some() {
                 after = with(after, self.shape.after(k));
             }
         }

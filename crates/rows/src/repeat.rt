@@ -1,11 +1,12 @@
 // Loop of A: the set of phases that A may be in, and whether it is tick 0.
-ghost use Rattle.std.specs.Prelude.{◌≡◌, ◌≤◌, length};
+ghost use Rattle.std.specs.Prelude.{◌≡◌};
 ghost use Rattle.std.specs.Option.{option_map};
 ghost use Rattle.rows.specs.Pieces.{rows_of, meanings};
 ghost use Rattle.rows.specs.Rules.Loop.{loop as the_loop, starts};
 
+use crate::cells::Kept;
 use crate::piece::{Piece, Row};
-use crate::rule::RowRule;
+use crate::rule::{RowRule, Tick};
 use crate::sets::with;
 use crate::situation::Situation;
 use algebra::algebra::Algebra;
@@ -18,14 +19,13 @@ pub struct Repeat {
 
 impl Repeat {
     // The weight with which A starts at this tick: the unit at tick 0, later what its runs leave with.
-    fn again<V: Algebra>(&self, cells: &[Option<V>], s: Situation) -> Option<V>
-        requires { 2048 ≤ length cells.now }
-        ensures { option_map V.means result ≡ starts V.model (rows_of V.model (meanings V.means cells.now) self.now.a) s.wa s.set }
+    fn again<V: Algebra>(&self, kept: Kept<V>, s: Situation) -> Option<V>
+        ensures { option_map V.means result ≡ starts V.model (rows_of V.model (meanings V.means kept.entry.cells.now) self.now.a) s.wa s.set }
     {
         if s.wa {
             Some(V::unit())
         } else {
-            self.a.over(Row::Exit, cells, s.set)
+            self.a.over(Row::Exit, kept, s.set)
         }
     }
 }
@@ -35,38 +35,31 @@ impl RowRule for Repeat {
 
     ghost works = { λ r m cells. the_loop m (rows_of m cells r.a) };
 
-    fn first<V: Algebra>(&self, cells: &[Option<V>]) -> Situation {
+    fn first<V: Algebra>(&self, kept: Kept<V>) -> Situation {
         Situation {
-            a: 0,
-            b: 0,
-            set: 0,
             wa: true,
-            wb: false,
+            ..Situation::default()
         }
     }
 
-    fn pause<V: Algebra>(&self, cells: &[Option<V>], s: Situation) -> Option<V> {
-        let begins = add(self.again(cells, s), self.a.at(Row::Pause, cells, 0));
-        join(begins, self.a.over(Row::Pause, cells, s.set))
-    }
-
-    fn exit<V: Algebra>(&self, cells: &[Option<V>], s: Situation) -> Option<V> {
-        None
-    }
-
-    fn next<V: Algebra>(&self, cells: &[Option<V>], s: Situation) -> Situation {
-        let moved = self.a.moved(cells, s.set);
-        let set = if self.again(cells, s).is_some() {
+    fn look<V: Algebra>(&self, kept: Kept<V>, s: Situation) -> Tick<V> {
+        let again = self.again(kept, s);
+        let begins = add(again, self.a.at(Row::Pause, kept, 0));
+        let pause = join(begins, self.a.over(Row::Pause, kept, s.set));
+        let moved = self.a.moved(kept, s.set);
+        let set = if again.is_some() {
             with(moved, self.a.shape.after(0))
         } else {
             moved
         };
-        Situation {
-            a: 0,
-            b: 0,
+        let next = Situation {
             set,
-            wa: false,
-            wb: false,
+            ..Situation::default()
+        };
+        Tick {
+            pause,
+            exit: None,
+            next,
         }
     }
 }

@@ -1,5 +1,5 @@
 // A row rule: it carries a situation from tick to tick, and gives the pause and exit coefficients at each.
-ghost use Rattle.std.specs.Prelude.{◌≡◌, ◌≤◌, List, length};
+ghost use Rattle.std.specs.Prelude.{◌≡◌, List};
 ghost use Rattle.std.specs.Option.{option_map};
 ghost use Rattle.algebra.specs.Model.{Model};
 ghost use Rattle.algebra.specs.Coefficients.{Coef};
@@ -7,8 +7,17 @@ ghost use Rattle.rows.specs.declared.situation.Situation.{Situation as Sit};
 ghost use Rattle.rows.specs.Pieces.{meanings};
 ghost use Rattle.rows.specs.Rules.Rule.{Rule};
 
+use crate::cells::Kept;
 use crate::situation::Situation;
 use algebra::algebra::Algebra;
+
+// Pause and exit at a situation, and the situation after it.
+#[derive(Clone, Copy)]
+pub struct Tick<V> {
+    pub pause: Option<V>,
+    pub exit: Option<V>,
+    pub next: Situation,
+}
 
 pub trait RowRule {
     // the situations that index their rows
@@ -17,23 +26,14 @@ pub trait RowRule {
     // the rule over the cells of its pieces, for any algebra: its meaning is the two rows of it
     ghost works: { Self → (m : Model) → List (Coef m) → Rule m };
 
-    fn first<V: Algebra>(&self, cells: &[Option<V>]) -> Situation
-        ensures value { result ≡ (works self.now V.Algebra.model (meanings V.Algebra.means cells.now)).first }
+    fn first<V: Algebra>(&self, kept: Kept<V>) -> Situation
+        ensures value { result ≡ (works self.now V.Algebra.model (meanings V.Algebra.means kept.entry.cells.now)).first }
         ensures fits { fits self.now result };
 
-    fn pause<V: Algebra>(&self, cells: &[Option<V>], s: Situation) -> Option<V>
+    fn look<V: Algebra>(&self, kept: Kept<V>, s: Situation) -> Tick<V>
         requires fits { fits self.now s }
-        requires room { 2048 ≤ length cells.now }
-        ensures { option_map V.Algebra.means result ≡ (works self.now V.Algebra.model (meanings V.Algebra.means cells.now)).pause s };
-
-    fn exit<V: Algebra>(&self, cells: &[Option<V>], s: Situation) -> Option<V>
-        requires fits { fits self.now s }
-        requires room { 2048 ≤ length cells.now }
-        ensures { option_map V.Algebra.means result ≡ (works self.now V.Algebra.model (meanings V.Algebra.means cells.now)).exit s };
-
-    fn next<V: Algebra>(&self, cells: &[Option<V>], s: Situation) -> Situation
-        requires fits { fits self.now s }
-        requires room { 2048 ≤ length cells.now }
-        ensures value { result ≡ (works self.now V.Algebra.model (meanings V.Algebra.means cells.now)).next s }
-        ensures fits { fits self.now result };
+        ensures pause { option_map V.Algebra.means result.pause ≡ (works self.now V.Algebra.model (meanings V.Algebra.means kept.entry.cells.now)).pause s }
+        ensures exit { option_map V.Algebra.means result.exit ≡ (works self.now V.Algebra.model (meanings V.Algebra.means kept.entry.cells.now)).exit s }
+        ensures next { result.next ≡ (works self.now V.Algebra.model (meanings V.Algebra.means kept.entry.cells.now)).next s }
+        ensures fits { fits self.now result.next };
 }

@@ -3,8 +3,9 @@ ghost use Rattle.std.specs.Prelude.{◌+◌, ◌<◌};
 ghost use Rattle.rows.specs.Pieces.{rows_of};
 ghost use Rattle.rows.specs.Rules.Sequence.{sequence as the_sequence};
 
+use crate::cells::Kept;
 use crate::piece::{Piece, Row};
-use crate::rule::RowRule;
+use crate::rule::{RowRule, Tick};
 use crate::sets::with;
 use crate::situation::Situation;
 use algebra::algebra::Algebra;
@@ -21,51 +22,29 @@ impl RowRule for Sequence {
 
     ghost works = { λ r m cells. the_sequence m (rows_of m cells r.a) (rows_of m cells r.b) };
 
-    fn first<V: Algebra>(&self, cells: &[Option<V>]) -> Situation {
-        Situation {
-            a: 0,
-            b: 0,
-            set: 0,
-            wa: false,
-            wb: false,
-        }
+    fn first<V: Algebra>(&self, kept: Kept<V>) -> Situation {
+        Situation::default()
     }
 
-    fn pause<V: Algebra>(&self, cells: &[Option<V>], s: Situation) -> Option<V> {
-        let goes_on = self.a.at(Row::Pause, cells, s.a);
-        let meets = add(
-            self.a.at(Row::Exit, cells, s.a),
-            self.b.at(Row::Pause, cells, 0),
-        );
-        let within = self.b.over(Row::Pause, cells, s.set);
-        join(join(goes_on, meets), within)
-    }
-
-    fn exit<V: Algebra>(&self, cells: &[Option<V>], s: Situation) -> Option<V> {
-        let meets = add(
-            self.a.at(Row::Exit, cells, s.a),
-            self.b.at(Row::Exit, cells, 0),
-        );
-        let within = self.b.over(Row::Exit, cells, s.set);
-        join(meets, within)
-    }
-
-    fn next<V: Algebra>(&self, cells: &[Option<V>], s: Situation) -> Situation {
-        let leaves = self.a.at(Row::Exit, cells, s.a).is_some();
-        let begins = self.b.at(Row::Pause, cells, 0).is_some();
-        let moved = self.b.moved(cells, s.set);
+    fn look<V: Algebra>(&self, kept: Kept<V>, s: Situation) -> Tick<V> {
+        let ap = self.a.at(Row::Pause, kept, s.a);
+        let ae = self.a.at(Row::Exit, kept, s.a);
+        let bp = self.b.at(Row::Pause, kept, 0);
+        let be = self.b.at(Row::Exit, kept, 0);
+        let pause = join(join(ap, add(ae, bp)), self.b.over(Row::Pause, kept, s.set));
+        let exit = join(add(ae, be), self.b.over(Row::Exit, kept, s.set));
+        let moved = self.b.moved(kept, s.set);
         let a = self.a.shape.after(s.a);
-        let set = if leaves & begins {
+        let set = if ae.is_some() & bp.is_some() {
             with(moved, self.b.shape.after(0))
         } else {
             moved
         };
-        Situation {
+        let next = Situation {
             a,
-            b: 0,
             set,
-            wa: false,
-            wb: false,
-        }
+            ..Situation::default()
+        };
+        Tick { pause, exit, next }
     }
 }

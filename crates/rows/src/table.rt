@@ -1,9 +1,12 @@
 // Table: the set of states current at the tick, walked arc by arc.
-ghost use Rattle.std.specs.Prelude.{◌≡◌, true};
+ghost use Rattle.std.specs.Prelude.{◌≡◌, true, false};
 ghost use Rattle.std.specs.Option.{option_map};
-ghost use Rattle.rows.specs.Rules.Table.{current as is_current, weights, reached, table as the_table};
+ghost use Rattle.rows.specs.Sets.{has as has_member};
+ghost use Rattle.rows.specs.Rules.Rule.{situation as a_situation};
+ghost use Rattle.rows.specs.Rules.Table.{weights, reached, table as the_table};
 
-use crate::rule::RowRule;
+use crate::cells::Kept;
+use crate::rule::{RowRule, Tick};
 use crate::sets::{has, with};
 use crate::situation::Situation;
 use algebra::algebra::Algebra;
@@ -15,41 +18,38 @@ pub struct Table<'a> {
     pub arcs: &'a [Arc],
 }
 
-// Does the arc begin at a member of the set and stay, or lead out, as said?
-fn current(set: u64, stay: bool, arc: Arc) -> bool
-    ensures { result ≡ is_current set stay arc }
+// Does the arc begin at a member of the set?
+fn begins(set: u64, arc: Arc) -> bool
+    ensures { result ≡ has_member set arc.from }
 {
-    if arc.from < 64 && has(set, arc.from as usize) {
-        (arc.to < 64) == stay
-    } else {
-        false
-    }
+    arc.from < 64 && has(set, arc.from as usize)
 }
 
-// The join of the weights of the set's arcs that stay, or that lead out.
-fn joined<V: Algebra>(arcs: &[Arc], set: u64, stay: bool) -> Option<V>
-    ensures { option_map V.means result ≡ weights V.model set stay arcs.now }
+// The weights of the set's arcs that stay, joined, of those that lead out, and the states that the first lead to.
+fn follow<V: Algebra>(arcs: &[Arc], set: u64) -> Tick<V>
+    ensures pause { option_map V.means result.pause ≡ weights V.model set true arcs.now }
+    ensures exit { option_map V.means result.exit ≡ weights V.model set false arcs.now }
+    ensures next { result.next ≡ a_situation 0 0 (reached set arcs.now) false false }
 {
-    let mut all = None;
-    for arc in arcs {
-        if current(set, stay, *arc) {
-            all = join(all, Some(V::weigh(arc.label)));
-        }
-    }
-    all
-}
-
-// The states that the set's arcs lead to.
-fn targets(arcs: &[Arc], set: u64) -> u64
-    ensures { result ≡ reached set arcs.now }
-{
+    let mut pause = None;
+    let mut exit = None;
     let mut states = 0;
     for arc in arcs {
-        if current(set, true, *arc) {
-            states = with(states, arc.to as usize);
+        if begins(set, *arc) {
+            let weight = Some(V::weigh(arc.label));
+            if arc.to < 64 {
+                pause = join(pause, weight);
+                states = with(states, arc.to as usize);
+            } else {
+                exit = join(exit, weight);
+            }
         }
     }
-    states
+    let next = Situation {
+        set: states,
+        ..Situation::default()
+    };
+    Tick { pause, exit, next }
 }
 
 impl RowRule for Table<'_> {
@@ -57,31 +57,14 @@ impl RowRule for Table<'_> {
 
     ghost works = { λ r m cells. the_table m r.arcs.now };
 
-    fn first<V: Algebra>(&self, cells: &[Option<V>]) -> Situation {
+    fn first<V: Algebra>(&self, kept: Kept<V>) -> Situation {
         Situation {
-            a: 0,
-            b: 0,
             set: 1,
-            wa: false,
-            wb: false,
+            ..Situation::default()
         }
     }
 
-    fn pause<V: Algebra>(&self, cells: &[Option<V>], s: Situation) -> Option<V> {
-        joined(self.arcs, s.set, true)
-    }
-
-    fn exit<V: Algebra>(&self, cells: &[Option<V>], s: Situation) -> Option<V> {
-        joined(self.arcs, s.set, false)
-    }
-
-    fn next<V: Algebra>(&self, cells: &[Option<V>], s: Situation) -> Situation {
-        Situation {
-            a: 0,
-            b: 0,
-            set: targets(self.arcs, s.set),
-            wa: false,
-            wb: false,
-        }
+    fn look<V: Algebra>(&self, kept: Kept<V>, s: Situation) -> Tick<V> {
+        follow(self.arcs, s.set)
     }
 }

@@ -3,7 +3,9 @@ use algebra::algebra::Algebra;
 use algebra::best::Best;
 use algebra::ports::Ports;
 use algebra::worst::Worst;
+use rows::cells::Cells;
 use rows::piece::{Piece, Row};
+use rows::place::Place;
 use rows::rule::RowRule;
 use rows::shape::Shape;
 use rows::unroll::unroll;
@@ -34,24 +36,21 @@ impl Figure for Ports {
 }
 
 fn shown<V: Figure>(cell: Option<V>) -> Option<u32> {
-    match cell {
-        Some(value) => Some(value.figure()),
-        None => None,
-    }
+    cell.map(|value| value.figure())
 }
 
-// Writes one cell.
-fn put<V: Algebra>(rt: &impl Abort, cells: &mut [Option<V>], at: usize, value: V) {
-    assert!(rt; at < cells.len());
-    cells[at] = Some(value);
+// The place with this number.
+fn place(rt: &impl Abort, shelf: usize) -> Place {
+    assert!(rt; shelf <= 15);
+    Place { shelf }
 }
 
 // A node: it leaves at tick 0.
-pub fn node<V: Algebra>(rt: &impl Abort, cells: &mut [Option<V>], shelf: usize, value: V) -> Piece {
-    assert!(rt; shelf <= 15);
-    put(rt, cells, 128 * shelf + 64, value);
+pub fn node<V: Algebra>(rt: &impl Abort, cells: &mut Cells<V>, shelf: usize, value: V) -> Piece {
+    let place = place(rt, shelf);
+    cells.lent[128 * place.shelf + 64] = Some(value);
     Piece {
-        shelf,
+        place,
         shape: Shape {
             transient: 1,
             period: 1,
@@ -60,17 +59,12 @@ pub fn node<V: Algebra>(rt: &impl Abort, cells: &mut [Option<V>], shelf: usize, 
 }
 
 // A pause: it stays at tick 0 and leaves, with the unit, at tick 1.
-pub fn pause<V: Algebra>(
-    rt: &impl Abort,
-    cells: &mut [Option<V>],
-    shelf: usize,
-    value: V,
-) -> Piece {
-    assert!(rt; shelf <= 15);
-    put(rt, cells, 128 * shelf, value);
-    put(rt, cells, 128 * shelf + 65, V::unit());
+pub fn pause<V: Algebra>(rt: &impl Abort, cells: &mut Cells<V>, shelf: usize, value: V) -> Piece {
+    let place = place(rt, shelf);
+    cells.lent[128 * place.shelf] = Some(value);
+    cells.lent[128 * place.shelf + 65] = Some(V::unit());
     Piece {
-        shelf,
+        place,
         shape: Shape {
             transient: 2,
             period: 1,
@@ -81,18 +75,20 @@ pub fn pause<V: Algebra>(
 // A ring: it stays for ever, with this value at the first tick of each round and with the unit at the others.
 pub fn ring<V: Algebra>(
     rt: &impl Abort,
-    cells: &mut [Option<V>],
+    cells: &mut Cells<V>,
     shelf: usize,
     value: V,
     period: usize,
 ) -> Piece {
-    assert!(rt; shelf <= 15 && period >= 1 && period <= 64);
-    for k in 0..period {
-        put(rt, cells, 128 * shelf + k, V::unit());
+    let place = place(rt, shelf);
+    assert!(rt; period >= 1 && period <= 64);
+    let from = 128 * place.shelf;
+    for cell in &mut cells.lent[from..from + period] {
+        *cell = Some(V::unit());
     }
-    put(rt, cells, 128 * shelf, value);
+    cells.lent[from] = Some(value);
     Piece {
-        shelf,
+        place,
         shape: Shape {
             transient: 0,
             period,
@@ -104,39 +100,29 @@ pub fn ring<V: Algebra>(
 pub fn unrolled<R: RowRule, V: Algebra>(
     rt: &impl Abort,
     rule: &R,
-    cells: &mut [Option<V>],
+    cells: &mut Cells<V>,
     shelf: usize,
     awaited: (usize, usize, usize),
 ) -> Result<Piece, Fail> {
-    assert!(rt; cells.len() >= 4096 && shelf <= 15);
-    match unroll(rule, cells, shelf) {
-        Ok(u) => {
-            assert_eq!(rt; (u.reply, u.shape.transient, u.shape.period), awaited);
-            Ok(Piece {
-                shelf,
-                shape: u.shape,
-            })
-        }
-        Err(_) => Err(Fail::new("not kept")),
-    }
+    let place = place(rt, shelf);
+    let u = unroll(rule, cells, place).map_err(|_| Fail::new("not kept"))?;
+    assert_eq!(rt; (u.reply, u.shape.transient, u.shape.period), awaited);
+    Ok(Piece {
+        place,
+        shape: u.shape,
+    })
 }
 
 // A row at the phases 0 to 3, absent past the last.
-pub fn four<V: Figure>(
-    rt: &impl Abort,
-    cells: &[Option<V>],
-    piece: Piece,
-    row: Row,
-) -> [Option<u32>; 4] {
-    assert!(rt; cells.len() >= 4096);
+pub fn four<V: Figure>(cells: &Cells<V>, piece: Piece, row: Row) -> [Option<u32>; 4] {
     let from = match row {
-        Row::Pause => 128 * piece.shelf,
-        Row::Exit => 128 * piece.shelf + 64,
+        Row::Pause => 128 * piece.place.shelf,
+        Row::Exit => 128 * piece.place.shelf + 64,
     };
     [
-        shown(cells[from]),
-        shown(cells[from + 1]),
-        shown(cells[from + 2]),
-        shown(cells[from + 3]),
+        shown(cells.lent[from]),
+        shown(cells.lent[from + 1]),
+        shown(cells.lent[from + 2]),
+        shown(cells.lent[from + 3]),
     ]
 }

@@ -7,6 +7,7 @@ use algebra::label::Label;
 use algebra::pair::Pair;
 use algebra::ports::Ports;
 use algebra::worst::Worst;
+use rows::cells::Cells;
 use rows::fork::Fork;
 use rows::piece::{Piece, Row};
 use rows::table::Table;
@@ -22,11 +23,7 @@ fn arc(from: u8, to: u8, cycles: u32, ports: u32) -> Arc {
 }
 
 // From state 0 by one of two states back to it.
-fn states<V: Algebra>(
-    rt: &impl Abort,
-    cells: &mut [Option<V>],
-    shelf: usize,
-) -> Result<Piece, Fail> {
+fn states<V: Algebra>(rt: &impl Abort, cells: &mut Cells<V>, shelf: usize) -> Result<Piece, Fail> {
     let arcs = [
         arc(0, 1, 5, 0b0001),
         arc(0, 2, 8, 0b0010),
@@ -37,11 +34,7 @@ fn states<V: Algebra>(
 }
 
 // The states beside a pause of 2 cycles on port 4.
-fn beside<V: Algebra>(
-    rt: &impl Abort,
-    cells: &mut [Option<V>],
-    shelf: usize,
-) -> Result<Piece, Fail> {
+fn beside<V: Algebra>(rt: &impl Abort, cells: &mut Cells<V>, shelf: usize) -> Result<Piece, Fail> {
     assert!(rt; shelf <= 13);
     let a = states(rt, cells, shelf + 1)?;
     let label = Label {
@@ -52,73 +45,67 @@ fn beside<V: Algebra>(
     unrolled(rt, &Fork { a, b }, cells, shelf, (4, 1, 2))
 }
 
+// The pause rows of both, as they are awaited.
+fn under<V: Figure>(
+    rt: &impl Abort,
+    cells: &mut Cells<V>,
+    of_table: [Option<u32>; 4],
+    of_fork: [Option<u32>; 4],
+) -> Result<(), Fail> {
+    let table = states(rt, cells, 0)?;
+    assert_eq!(rt; four(cells, table, Row::Pause), of_table);
+    let fork = beside(rt, cells, 1)?;
+    assert_eq!(rt; four(cells, fork, Row::Pause), of_fork);
+    Ok(())
+}
+
 #[test]
 fn under_worst(rt: HostRuntime) -> Result<(), Fail> {
     let mut room: [Option<Worst>; 4096] = [None; 4096];
-    let cells = &mut room;
-    let table = states(&rt, cells, 0)?;
-    assert_eq!(rt;
-        four(&rt, cells, table, Row::Pause),
-        [Some(8), Some(3), None, None]
-    );
-    let fork = beside(&rt, cells, 1)?;
-    assert_eq!(rt;
-        four(&rt, cells, fork, Row::Pause),
-        [Some(10), Some(3), Some(8), None]
-    );
-    Ok(())
+    under(
+        &rt,
+        &mut Cells { lent: &mut room },
+        [Some(8), Some(3), None, None],
+        [Some(10), Some(3), Some(8), None],
+    )
 }
 
 #[test]
 fn under_best(rt: HostRuntime) -> Result<(), Fail> {
     let mut room: [Option<Best>; 4096] = [None; 4096];
-    let cells = &mut room;
-    let table = states(&rt, cells, 0)?;
-    assert_eq!(rt;
-        four(&rt, cells, table, Row::Pause),
-        [Some(5), Some(1), None, None]
-    );
-    let fork = beside(&rt, cells, 1)?;
-    assert_eq!(rt;
-        four(&rt, cells, fork, Row::Pause),
-        [Some(7), Some(1), Some(5), None]
-    );
-    Ok(())
+    under(
+        &rt,
+        &mut Cells { lent: &mut room },
+        [Some(5), Some(1), None, None],
+        [Some(7), Some(1), Some(5), None],
+    )
 }
 
 #[test]
 fn under_ports(rt: HostRuntime) -> Result<(), Fail> {
     let mut room: [Option<Ports>; 4096] = [None; 4096];
-    let cells = &mut room;
-    let table = states(&rt, cells, 0)?;
-    assert_eq!(rt;
-        four(&rt, cells, table, Row::Pause),
-        [Some(0b0011), Some(0b1100), None, None]
-    );
-    let fork = beside(&rt, cells, 1)?;
-    assert_eq!(rt;
-        four(&rt, cells, fork, Row::Pause),
-        [Some(0b10011), Some(0b1100), Some(0b0011), None]
-    );
-    Ok(())
+    under(
+        &rt,
+        &mut Cells { lent: &mut room },
+        [Some(0b0011), Some(0b1100), None, None],
+        [Some(0b10011), Some(0b1100), Some(0b0011), None],
+    )
 }
 
 // Both halves of a cell.
 fn halves(cell: Option<Pair<Worst, Ports>>) -> Option<(u32, u32)> {
-    match cell {
-        Some(both) => Some((both.first.cycles, both.second.bits)),
-        None => None,
-    }
+    cell.map(|both| (both.first.cycles, both.second.bits))
 }
 
 #[test]
 fn under_the_pair(rt: HostRuntime) -> Result<(), Fail> {
     let mut room: [Option<Pair<Worst, Ports>>; 4096] = [None; 4096];
-    let fork = beside(&rt, &mut room, 0)?;
-    assert_eq!(rt; fork.shelf, 0);
-    assert_eq!(rt; halves(room[0]), Some((10, 0b10011)));
-    assert_eq!(rt; halves(room[1]), Some((3, 0b1100)));
-    assert_eq!(rt; halves(room[2]), Some((8, 0b0011)));
-    assert_eq!(rt; halves(room[3]), None);
+    let cells = &mut Cells { lent: &mut room };
+    let fork = beside(&rt, cells, 0)?;
+    assert_eq!(rt; fork.place.shelf, 0);
+    assert_eq!(rt; halves(cells.lent[0]), Some((10, 0b10011)));
+    assert_eq!(rt; halves(cells.lent[1]), Some((3, 0b1100)));
+    assert_eq!(rt; halves(cells.lent[2]), Some((8, 0b0011)));
+    assert_eq!(rt; halves(cells.lent[3]), None);
     Ok(())
 }

@@ -4,6 +4,7 @@ use algebra::arc::{Arc, OUT};
 use algebra::label::Label;
 use algebra::worst::Worst;
 use rows::abort::Abort;
+use rows::cells::Cells;
 use rows::choice::Choice;
 use rows::fork::Fork;
 use rows::piece::{Piece, Row};
@@ -15,7 +16,7 @@ use std::test::Fail;
 // Two pauses in sequence, on a shelf and the two after it.
 fn twice(
     rt: &impl std::process::Abort,
-    cells: &mut [Option<Worst>],
+    cells: &mut Cells<Worst>,
     shelf: usize,
     a: u32,
     b: u32,
@@ -29,7 +30,7 @@ fn twice(
 // Their loop.
 fn round(
     rt: &impl std::process::Abort,
-    cells: &mut [Option<Worst>],
+    cells: &mut Cells<Worst>,
     shelf: usize,
     a: u32,
     b: u32,
@@ -41,18 +42,16 @@ fn round(
 
 #[test]
 fn loops(rt: HostRuntime) -> Result<(), Fail> {
-    let mut room = [None; 4096];
-    let cells = &mut room;
+    let cells = &mut Cells {
+        lent: &mut [None; 4096],
+    };
     let a = pause(&rt, cells, 0, Worst { cycles: 10 });
     let ever = unrolled(&rt, &Repeat { a }, cells, 1, (2, 0, 1))?;
-    assert_eq!(rt;
-        four(&rt, cells, ever, Row::Pause),
-        [Some(10), None, None, None]
-    );
-    assert_eq!(rt; four(&rt, cells, ever, Row::Exit), [None; 4]);
+    assert_eq!(rt; four(cells, ever, Row::Pause), [Some(10), None, None, None]);
+    assert_eq!(rt; four(cells, ever, Row::Exit), [None; 4]);
     let both = round(&rt, cells, 2, 4, 9)?;
     assert_eq!(rt;
-        four(&rt, cells, both, Row::Pause),
+        four(cells, both, Row::Pause),
         [Some(4), Some(9), None, None]
     );
     Ok(())
@@ -61,14 +60,15 @@ fn loops(rt: HostRuntime) -> Result<(), Fail> {
 // An equal coefficient is not yet a repeat.
 #[test]
 fn loop_of_three(rt: HostRuntime) -> Result<(), Fail> {
-    let mut room = [None; 4096];
-    let cells = &mut room;
+    let cells = &mut Cells {
+        lent: &mut [None; 4096],
+    };
     let a = twice(&rt, cells, 0, 5, 5)?;
     let b = pause(&rt, cells, 3, Worst { cycles: 9 });
     let a = unrolled(&rt, &Sequence { a, b }, cells, 4, (5, 4, 1))?;
     let three = unrolled(&rt, &Repeat { a }, cells, 5, (4, 0, 3))?;
     assert_eq!(rt;
-        four(&rt, cells, three, Row::Pause),
+        four(cells, three, Row::Pause),
         [Some(5), Some(5), Some(9), None]
     );
     Ok(())
@@ -76,33 +76,32 @@ fn loop_of_three(rt: HostRuntime) -> Result<(), Fail> {
 
 #[test]
 fn forks(rt: HostRuntime) -> Result<(), Fail> {
-    let mut room = [None; 4096];
-    let cells = &mut room;
+    let cells = &mut Cells {
+        lent: &mut [None; 4096],
+    };
     let a = round(&rt, cells, 0, 4, 9)?;
     let b = round(&rt, cells, 4, 9, 2)?;
     let beside = unrolled(&rt, &Fork { a, b }, cells, 8, (2, 0, 2))?;
     assert_eq!(rt;
-        four(&rt, cells, beside, Row::Pause),
+        four(cells, beside, Row::Pause),
         [Some(13), Some(11), None, None]
     );
     let a = pause(&rt, cells, 9, Worst { cycles: 5 });
     let b = twice(&rt, cells, 10, 3, 8)?;
     let waits = unrolled(&rt, &Fork { a, b }, cells, 13, (4, 3, 1))?;
     assert_eq!(rt;
-        four(&rt, cells, waits, Row::Pause),
+        four(cells, waits, Row::Pause),
         [Some(8), Some(8), None, None]
     );
-    assert_eq!(rt;
-        four(&rt, cells, waits, Row::Exit),
-        [None, None, Some(0), None]
-    );
+    assert_eq!(rt; four(cells, waits, Row::Exit), [None, None, Some(0), None]);
     Ok(())
 }
 
 #[test]
 fn aborts(rt: HostRuntime) -> Result<(), Fail> {
-    let mut room = [None; 4096];
-    let cells = &mut room;
+    let cells = &mut Cells {
+        lent: &mut [None; 4096],
+    };
     let arcs = [
         Arc {
             from: 0,
@@ -126,12 +125,9 @@ fn aborts(rt: HostRuntime) -> Result<(), Fail> {
     let b = node(&rt, cells, 2, Worst { cycles: 1 });
     let a = unrolled(&rt, &Sequence { a, b }, cells, 3, (3, 2, 1))?;
     let cut = unrolled(&rt, &Abort { h, a }, cells, 4, (3, 2, 1))?;
+    assert_eq!(rt; four(cells, cut, Row::Pause), [Some(36), None, None, None]);
     assert_eq!(rt;
-        four(&rt, cells, cut, Row::Pause),
-        [Some(36), None, None, None]
-    );
-    assert_eq!(rt;
-        four(&rt, cells, cut, Row::Exit),
+        four(cells, cut, Row::Exit),
         [Some(20), Some(20), None, None]
     );
     Ok(())
@@ -139,17 +135,18 @@ fn aborts(rt: HostRuntime) -> Result<(), Fail> {
 
 #[test]
 fn choices(rt: HostRuntime) -> Result<(), Fail> {
-    let mut room = [None; 4096];
-    let cells = &mut room;
+    let cells = &mut Cells {
+        lent: &mut [None; 4096],
+    };
     let a = pause(&rt, cells, 0, Worst { cycles: 10 });
     let b = node(&rt, cells, 1, Worst { cycles: 40 });
     let either = unrolled(&rt, &Choice { a, b }, cells, 2, (3, 2, 1))?;
     assert_eq!(rt;
-        four(&rt, cells, either, Row::Pause),
+        four(cells, either, Row::Pause),
         [Some(10), None, None, None]
     );
     assert_eq!(rt;
-        four(&rt, cells, either, Row::Exit),
+        four(cells, either, Row::Exit),
         [Some(40), Some(0), None, None]
     );
     Ok(())

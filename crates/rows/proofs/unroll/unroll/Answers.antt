@@ -18,7 +18,7 @@ pub returns-then-transient-period-gt64 : goal.returns-then-transient-period-gt64
 returns-then-transient-period-gt64 g c =
     let m = g.V.Algebra.model in
     let f = g.V.Algebra.means in
-    let rule = g.R.RowRule.works c.args.rule.now m (meanings f (take 2048 c.args.cells.now)) in
+    let rule = g.R.RowRule.works c.args.rule.now m (meanings f (take 2048 c.args.cells.now.lent.now)) in
     let kept = c.walk.ensures.below in
     let turn = c.in-Some.ensures.cases in
     let number = c.in-Some.field-0.number in
@@ -33,7 +33,7 @@ returns-then-transient-period-gt64 g c =
           period = c.least_period-period.result;
           soon = turn.0;
           first = record { earlier = (earlier, turn.1, turn.2); fresh = turn.3 };
-          least = shape_of {m = m} rule (noted m (meanings f c.walk.new.cells)) earlier number _ _ turn.1 turn.2 turn.4 c.least_period-period.ensures c.least_transient-transient.ensures;
+          least = shape_of {m = m} rule (noted m (meanings f c.walk.new.cells.lent.now)) earlier number _ _ turn.1 turn.2 turn.4 c.least_period-period.ensures c.least_transient-transient.ensures;
           long = c.if-transient-period-gt64.true;
         },
         kept,
@@ -44,14 +44,14 @@ pub returns : goal.returns
 returns g c =
     let m = g.V.Algebra.model in
     let f = g.V.Algebra.means in
-    let rule = g.R.RowRule.works c.args.rule.now m (meanings f (take 2048 c.args.cells.now)) in
+    let rule = g.R.RowRule.works c.args.rule.now m (meanings f (take 2048 c.args.cells.now.lent.now)) in
     let kept = c.walk.ensures.below in
     let turn = c.in-Some.ensures.cases in
     let number = c.in-Some.field-0.number in
     let earlier = c.in-Some.field-0.earlier in
-    let before = c.walk.new.cells in
-    let after = c.fill.new.cells in
-    let shelf = c.args.shelf in
+    let before = c.walk.new.cells.lent.now in
+    let after = c.fill.new.self.lent.now in
+    let shelf = c.args.place.shelf in
     let t = c.least_transient-transient.result in
     let d = c.least_period-period.result in
     let filled = c.fill.ensures in

@@ -1,32 +1,37 @@
-use Rattle.std.proofs.Common.{◌≤◌, List, length, take, drop, sym, refl, ap, ◌∙◌, arith}
+use Rattle.std.proofs.Common.{◌+◌, ◌<◌, ◌≤◌, List, length, take, drop, sym, refl, ap, ◌∙◌, subst, arith}
 use Rattle.algebra.specs.Coefficients.{Coef}
 use Rattle.rows.specs.Pieces.{meanings}
 use Rattle.rows.specs.Search.{noted}
-use Rattle.rows.proofs.Walking.{walked_more, noted_now, noted_then, shelves_same, past_same}
+use Rattle.rows.specs.Chains.{situations}
+use Rattle.rows.proofs.Chaining.{length-situations, count_more}
+use Rattle.rows.proofs.Walking.{Walked, walked_more, noted_now, noted_then, shelves_same, past_same}
 use Rattle.rows.proofs.walk.walk.Goals as goal
 
 pub returns-in-Some : goal.returns-in-Some
 returns-in-Some g c =
     let found = c.in-Some.ensures in
     let w = c.loop-n.invariant.0 in
+    let earlier : c.in-Some.earlier < c.loop-n.n = omega (arith, found.0) in
     record {
       below = c.loop-n.invariant.2;
       past = c.loop-n.invariant.3;
-      cases = (c.loop-n-test.true, found.0, sym (w.seen c.in-Some.i (omega arith) found.0) ∙ found.1 ∙ w.here, w.fresh, λ k less. w.kept k (omega arith) less);
+      cases = (c.loop-n-test.true, earlier, sym (w.seen c.in-Some.earlier (omega arith) earlier) ∙ found.1 ∙ w.here, w.fresh, λ k less. w.kept k (omega arith) less);
     }
 
 pub loop-n-init : goal.loop-n-init
 loop-n-init g c = (
   record {
-    here = c.start-s.ensures.value;
-    long = c.requires.notes;
+    here =
+        c.first-s.ensures.value
+        ∙ ap (λ cells. (g.R.RowRule.works c.args.rule.now g.V.Algebra.model (meanings g.V.Algebra.means cells)).first) c.kept.ensures;
     seen = λ k low less. absurd (omega arith);
     fresh = λ j k low less. absurd (omega arith);
     kept = λ k low less. absurd (omega arith);
   },
-  c.start-s.ensures.fits,
+  c.first-s.ensures.fits,
   refl,
   refl,
+  ap length c.new-seen.ensures,
 )
 
 pub loop-n-preserved : goal.loop-n-preserved
@@ -34,25 +39,30 @@ loop-n-preserved g c =
     let m = g.V.Algebra.model in
     let f = g.V.Algebra.means in
     let over = λ (cs : List (Coef m)). g.R.RowRule.works c.args.rule.now m cs in
+    let rule = over (meanings f (take 2048 c.args.cells.now.lent.now)) in
     let n = c.loop-n.n in
-    let cells = c.loop-n.cells in
+    let cells = c.loop-n.cells.lent.now in
     let p = c.look-pause.result.pause in
     let e = c.look-pause.result.exit in
     let room : 4096 ≤ length cells = omega arith in
     let same = c.loop-n.invariant.2 in
-    let shelves = ap (meanings f) same in
+    let shelves = ap (meanings f) (c.kept-in-loop-n.ensures ∙ same) in
     let few = c.loop-n-test.true in
+    let count = c.loop-n.invariant.4 in
+    let items = situations c.loop-n.seen.noted.items in
     let wrote = c.note.ensures in (
-      walked_more (over (meanings f (take 2048 c.args.cells.now))) n c.loop-n.s c.look-pause.result.next c.loop-n.situations (meanings f cells) (meanings f c.note.new.cells) c.loop-n.invariant.0 few
-          c.in_default.ensures
+      subst (λ xs. Walked rule (n + 1) c.look-pause.result.next xs (meanings f c.note.new.self.lent.now)) (sym c.push.ensures)
+          (walked_more rule n c.loop-n.s c.look-pause.result.next items (meanings f cells) (meanings f c.note.new.self.lent.now) c.loop-n.invariant.0 (omega (arith, length-situations c.loop-n.seen.noted.items))
+          (λ k less. c.in_default.ensures k (omega arith))
           (c.look-pause.ensures.next ∙ ap (λ cs. (over cs).next c.loop-n.s) shelves)
           (ap (λ xs. noted m (meanings f xs) n) wrote ∙ noted_now m f cells n p e room few
           ∙ (λ i. (c.look-pause.ensures.pause i, c.look-pause.ensures.exit i))
           ∙ ap (λ cs. ((over cs).pause c.loop-n.s, (over cs).exit c.loop-n.s)) shelves)
-          (λ k less. ap (λ xs. noted m (meanings f xs) k) wrote ∙ noted_then m f cells n p e room few k less),
+          (λ k less. ap (λ xs. noted m (meanings f xs) k) wrote ∙ noted_then m f cells n p e room few k less)),
       c.look-pause.ensures.fits,
       ap (take 2048) wrote ∙ shelves_same f cells n p e room few ∙ same,
       ap (drop 4096) wrote ∙ past_same f cells n p e room few ∙ c.loop-n.invariant.3,
+      count_more _ _ c.loop-n.s c.push.ensures count,
     )
 
 pub returns : goal.returns

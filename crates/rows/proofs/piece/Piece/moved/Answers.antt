@@ -2,7 +2,7 @@ use Rattle.std.proofs.Common.{◌≡◌, ℕ, Bool, true, false, ◌&&◌, is_so
 use Rattle.std.proofs.lemmas.Bool.{and_from, and_left, and_right}
 use Rattle.rows.specs.Pieces.{rows_of, meanings, next_phase}
 use Rattle.rows.specs.Sets.{has, image, with_member}
-use Rattle.rows.proofs.Cells.{present_means}
+use Rattle.rows.proofs.Meanings.{present_means}
 use Rattle.rows.proofs.Walks.{image_more, image_past}
 use Rattle.rows.proofs.piece.Piece.moved.Goals as goal
 use Rattle.rows.proofs.piece.Piece.moved.Goals.{then-has+then-is_some, else-has, else-has-via-then-has+else-is_some, else-has-via-else-has}
@@ -10,7 +10,7 @@ use Rattle.rows.proofs.piece.Piece.moved.Goals.{then-has+then-is_some, else-has,
 pub loop-k-preserved : goal.loop-k-preserved
 loop-k-preserved g c =
     let f = g.V.Algebra.means in
-    let rows = rows_of g.V.Algebra.model (meanings f c.args.cells.now) c.args.self.now in
+    let rows = rows_of g.V.Algebra.model (meanings f c.args.kept.cells.now) c.args.self.now in
     let k = c.loop-k.k in
     let test : ℕ → Bool = λ j. has c.args.set j && is_some (rows.p j) in
     elim c.if-has.branch [

@@ -5,5 +5,5 @@ use Rattle.rows.proofs.piece.Piece.moved.Given as goal
 
 abbrev pub invariant-loop-k : goal.invariant-loop-k
 invariant-loop-k g l =
-    let rows = rows_of g.V.Algebra.model (meanings g.V.Algebra.means l.cells) l.self in
+    let rows = rows_of g.V.Algebra.model (meanings g.V.Algebra.means l.kept.cells.now) l.self in
     l.after ≡ image (λ k. has l.set k && is_some (rows.p k)) (next_phase rows) l.k

@@ -7,4 +7,4 @@ use Rattle.rows.proofs.piece.Piece.over.Given as goal
 abbrev pub invariant-loop-k : goal.invariant-loop-k
 invariant-loop-k g l =
     option_map g.V.Algebra.means l.all
-    ≡ joins g.V.Algebra.model (has l.set) (row (rows_of g.V.Algebra.model (meanings g.V.Algebra.means l.cells) l.self) l.row) l.k
+    ≡ joins g.V.Algebra.model (has l.set) (row (rows_of g.V.Algebra.model (meanings g.V.Algebra.means l.kept.cells.now) l.self) l.row) l.k

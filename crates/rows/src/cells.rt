@@ -1,0 +1,49 @@
+// The cells that a rack is lent, and those among them that its shelves keep.
+ghost use Rattle.std.specs.Prelude.{◌≡◌, ◌+◌, ◌<◌, ◌≤◌, ⊤, length, take, slice_set};
+
+use algebra::algebra::Algebra;
+use std::alloc::AllocError;
+
+// 128 cells for each of 16 shelves, then 2,048 to work in; any past 4,096 stay as they are.
+#[derive(Drop)]
+pub struct Cells<'a, V> {
+    pub lent: &'a mut [Option<V>],
+    ghost room: { 4096 ≤ length lent.now },
+}
+
+// What the 16 shelves keep, to read: the first 2,048 cells.
+pub struct Kept<'a, V> {
+    pub cells: &'a [Option<V>],
+    ghost long: { 2048 ≤ length cells.now },
+}
+
+impl<'a, V> Clone for Kept<'a, V> {
+    ghost is_clone = { λ s r. r ≡ s };
+
+    ghost is_infallible = { λ _. ⊤ };
+
+    fn clone(&self) -> Result<Kept<'a, V>, AllocError> {
+        Ok(*self)
+    }
+}
+
+impl<'a, V> Copy for Kept<'a, V> {}
+
+impl<'a, V: Algebra> Cells<'a, V> {
+    pub fn kept<'b>(&'b self) -> Kept<'b, V>
+        ensures { result.cells.now ≡ take 2048 self.now.lent.now }
+    {
+        Kept {
+            cells: &self.lent[0..2048],
+        }
+    }
+
+    // Notes pause and exit at tick n in the working cells.
+    pub fn note(&mut self, n: usize, pause: Option<V>, exit: Option<V>)
+        requires { n < 1024 }
+        ensures { self.new.lent.now ≡ slice_set (slice_set self.old.lent.now (2048 + n) pause) (3072 + n) exit }
+    {
+        self.lent[2048 + n] = pause;
+        self.lent[3072 + n] = exit;
+    }
+}
