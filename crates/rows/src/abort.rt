@@ -21,14 +21,14 @@ impl RowRule for Abort {
 
     ghost works = { λ r m cells. the_abort m (rows_of m cells r.h) (rows_of m cells r.a) };
 
-    fn first<V: Algebra>(&self, kept: Kept<V>) -> Situation {
+    fn first<V: Algebra>(&self, kept: &Kept<V>) -> Situation {
         Situation {
             wa: true,
             ..Situation::default()
         }
     }
 
-    fn look<V: Algebra>(&self, kept: Kept<V>, s: Situation) -> Tick<V> {
+    fn look<V: Algebra>(&self, kept: &Kept<V>, s: Situation) -> Tick<V> {
         let hp = self.h.at(Row::Pause, kept, s.a);
         let he = self.h.at(Row::Exit, kept, s.a);
         let ap = self.a.at(Row::Pause, kept, s.b);

@@ -1,8 +1,7 @@
 // The cells that a rack is lent, and those among them that its shelves keep.
-ghost use Rattle.std.specs.Prelude.{◌≡◌, ◌+◌, ◌<◌, ◌≤◌, ⊤, length, take, slice_set};
+ghost use Rattle.std.specs.Prelude.{◌≡◌, ◌+◌, ◌<◌, ◌≤◌, length, take, slice_set};
 
 use algebra::algebra::Algebra;
-use std::alloc::AllocError;
 
 // 128 cells for each of 16 shelves, then 2,048 to work in; any past 4,096 stay as they are.
 #[derive(Drop)]
@@ -12,22 +11,11 @@ pub struct Cells<'a, V> {
 }
 
 // What the 16 shelves keep, to read: the first 2,048 cells.
+#[derive(Drop)]
 pub struct Kept<'a, V> {
     pub cells: &'a [Option<V>],
     ghost long: { 2048 ≤ length cells.now },
 }
-
-impl<'a, V> Clone for Kept<'a, V> {
-    ghost is_clone = { λ s r. r ≡ s };
-
-    ghost is_infallible = { λ _. ⊤ };
-
-    fn clone(&self) -> Result<Kept<'a, V>, AllocError> {
-        Ok(*self)
-    }
-}
-
-impl<'a, V> Copy for Kept<'a, V> {}
 
 impl<'a, V: Algebra> Cells<'a, V> {
     pub fn kept<'b>(&'b self) -> Kept<'b, V>

@@ -21,11 +21,11 @@ impl RowRule for Fork {
 
     ghost works = { λ r m cells. the_fork m (rows_of m cells r.a) (rows_of m cells r.b) };
 
-    fn first<V: Algebra>(&self, kept: Kept<V>) -> Situation {
+    fn first<V: Algebra>(&self, kept: &Kept<V>) -> Situation {
         Situation::default()
     }
 
-    fn look<V: Algebra>(&self, kept: Kept<V>, s: Situation) -> Tick<V> {
+    fn look<V: Algebra>(&self, kept: &Kept<V>, s: Situation) -> Tick<V> {
         let ap = self.a.at(Row::Pause, kept, s.a);
         let ae = self.a.at(Row::Exit, kept, s.a);
         let bp = self.b.at(Row::Pause, kept, s.b);

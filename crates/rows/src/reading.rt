@@ -12,9 +12,9 @@ use algebra::coefficient::join;
 
 impl Piece {
     // The coefficient of a row at phase k.
-    pub fn at<V: Algebra>(&self, row: Row, kept: Kept<V>, k: usize) -> Option<V>
+    pub fn at<V: Algebra>(&self, row: Row, kept: &Kept<V>, k: usize) -> Option<V>
         requires { k < self.now.shape.transient + self.now.shape.period }
-        ensures { option_map V.means result ≡ row_of (rows_of V.model (meanings V.means kept.entry.cells.now) self.now) row k }
+        ensures { option_map V.means result ≡ row_of (rows_of V.model (meanings V.means kept.now.cells.now) self.now) row k }
     {
         match row {
             Row::Pause => kept.cells[128 * self.place.shelf + k],
@@ -23,8 +23,8 @@ impl Piece {
     }
 
     // The join of a row's coefficients over a set of phases.
-    pub fn over<V: Algebra>(&self, row: Row, kept: Kept<V>, set: u64) -> Option<V>
-        ensures { option_map V.means result ≡ joins V.model (has_member set) (row_of (rows_of V.model (meanings V.means kept.entry.cells.now) self.now) row) (size (rows_of V.model (meanings V.means kept.entry.cells.now) self.now)) }
+    pub fn over<V: Algebra>(&self, row: Row, kept: &Kept<V>, set: u64) -> Option<V>
+        ensures { option_map V.means result ≡ joins V.model (has_member set) (row_of (rows_of V.model (meanings V.means kept.now.cells.now) self.now) row) (size (rows_of V.model (meanings V.means kept.now.cells.now) self.now)) }
     {
         let mut all = None;
         // a for, not a fold: in closures `at` would ask for the bound of k again
@@ -37,8 +37,8 @@ impl Piece {
     }
 
     // The phase after each member of a set at which pause is present.
-    pub fn moved<V: Algebra>(&self, kept: Kept<V>, set: u64) -> u64
-        ensures { result ≡ phases_after (rows_of V.model (meanings V.means kept.entry.cells.now) self.now) set }
+    pub fn moved<V: Algebra>(&self, kept: &Kept<V>, set: u64) -> u64
+        ensures { result ≡ phases_after (rows_of V.model (meanings V.means kept.now.cells.now) self.now) set }
     {
         let mut after = 0;
         // a for, not a fold: in closures `at` and `after` would ask for the bound of k again

@@ -19,8 +19,8 @@ pub struct Repeat {
 
 impl Repeat {
     // The weight with which A starts at this tick: the unit at tick 0, later what its runs leave with.
-    fn again<V: Algebra>(&self, kept: Kept<V>, s: Situation) -> Option<V>
-        ensures { option_map V.means result ≡ starts V.model (rows_of V.model (meanings V.means kept.entry.cells.now) self.now.a) s.wa s.set }
+    fn again<V: Algebra>(&self, kept: &Kept<V>, s: Situation) -> Option<V>
+        ensures { option_map V.means result ≡ starts V.model (rows_of V.model (meanings V.means kept.now.cells.now) self.now.a) s.wa s.set }
     {
         if s.wa {
             Some(V::unit())
@@ -35,14 +35,14 @@ impl RowRule for Repeat {
 
     ghost works = { λ r m cells. the_loop m (rows_of m cells r.a) };
 
-    fn first<V: Algebra>(&self, kept: Kept<V>) -> Situation {
+    fn first<V: Algebra>(&self, kept: &Kept<V>) -> Situation {
         Situation {
             wa: true,
             ..Situation::default()
         }
     }
 
-    fn look<V: Algebra>(&self, kept: Kept<V>, s: Situation) -> Tick<V> {
+    fn look<V: Algebra>(&self, kept: &Kept<V>, s: Situation) -> Tick<V> {
         let again = self.again(kept, s);
         let begins = add(again, self.a.at(Row::Pause, kept, 0));
         let pause = join(begins, self.a.over(Row::Pause, kept, s.set));

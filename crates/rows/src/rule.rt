@@ -26,14 +26,14 @@ pub trait RowRule {
     // the rule over the cells of its pieces, for any algebra: its meaning is the two rows of it
     ghost works: { Self → (m : Model) → List (Coef m) → Rule m };
 
-    fn first<V: Algebra>(&self, kept: Kept<V>) -> Situation
-        ensures value { result ≡ (works self.now V.Algebra.model (meanings V.Algebra.means kept.entry.cells.now)).first }
+    fn first<V: Algebra>(&self, kept: &Kept<V>) -> Situation
+        ensures value { result ≡ (works self.now V.Algebra.model (meanings V.Algebra.means kept.now.cells.now)).first }
         ensures fits { fits self.now result };
 
-    fn look<V: Algebra>(&self, kept: Kept<V>, s: Situation) -> Tick<V>
+    fn look<V: Algebra>(&self, kept: &Kept<V>, s: Situation) -> Tick<V>
         requires fits { fits self.now s }
-        ensures pause { option_map V.Algebra.means result.pause ≡ (works self.now V.Algebra.model (meanings V.Algebra.means kept.entry.cells.now)).pause s }
-        ensures exit { option_map V.Algebra.means result.exit ≡ (works self.now V.Algebra.model (meanings V.Algebra.means kept.entry.cells.now)).exit s }
-        ensures next { result.next ≡ (works self.now V.Algebra.model (meanings V.Algebra.means kept.entry.cells.now)).next s }
+        ensures pause { option_map V.Algebra.means result.pause ≡ (works self.now V.Algebra.model (meanings V.Algebra.means kept.now.cells.now)).pause s }
+        ensures exit { option_map V.Algebra.means result.exit ≡ (works self.now V.Algebra.model (meanings V.Algebra.means kept.now.cells.now)).exit s }
+        ensures next { result.next ≡ (works self.now V.Algebra.model (meanings V.Algebra.means kept.now.cells.now)).next s }
         ensures fits { fits self.now result.next };
 }

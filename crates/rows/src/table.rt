@@ -57,14 +57,14 @@ impl RowRule for Table<'_> {
 
     ghost works = { λ r m cells. the_table m r.arcs.now };
 
-    fn first<V: Algebra>(&self, kept: Kept<V>) -> Situation {
+    fn first<V: Algebra>(&self, kept: &Kept<V>) -> Situation {
         Situation {
             set: 1,
             ..Situation::default()
         }
     }
 
-    fn look<V: Algebra>(&self, kept: Kept<V>, s: Situation) -> Tick<V> {
+    fn look<V: Algebra>(&self, kept: &Kept<V>, s: Situation) -> Tick<V> {
         follow(self.arcs, s.set)
     }
 }

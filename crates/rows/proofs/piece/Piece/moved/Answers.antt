@@ -10,7 +10,7 @@ use Rattle.rows.proofs.piece.Piece.moved.Goals.{then-has+then-is_some, else-has,
 pub loop-k-preserved : goal.loop-k-preserved
 loop-k-preserved g c =
     let f = g.V.Algebra.means in
-    let rows = rows_of g.V.Algebra.model (meanings f c.args.kept.cells.now) c.args.self.now in
+    let rows = rows_of g.V.Algebra.model (meanings f c.args.kept.now.cells.now) c.args.self.now in
     let k = c.loop-k.k in
     let test : ℕ → Bool = λ j. has c.args.set j && is_some (rows.p j) in
     elim c.if-has.branch [

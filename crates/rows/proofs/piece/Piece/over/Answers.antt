@@ -10,7 +10,7 @@ pub loop-k-preserved : goal.loop-k-preserved
 loop-k-preserved g c =
     let m = g.V.Algebra.model in
     let f = g.V.Algebra.means in
-    let r = row (rows_of m (meanings f c.args.kept.cells.now) c.args.self.now) c.args.row in
+    let r = row (rows_of m (meanings f c.args.kept.now.cells.now) c.args.self.now) c.args.row in
     let k = c.loop-k.k in
     elim c.if-has.branch [
       | then-has w ↦
