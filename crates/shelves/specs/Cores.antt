@@ -1,6 +1,5 @@
 -- What calls do to a rack, said of what it holds before and after, and of replies as they are given.
 use Rattle.std.specs.Prelude.{List, [], map, Result}
-use Rattle.algebra.specs.declared.algebra.Algebra.{Ghosts}
 use Rattle.algebra.specs.Model.{Model}
 use Rattle.shelves.specs.declared.call.Call.{Call as Given}
 use Rattle.shelves.specs.declared.core_state.Core.{Core}
@@ -14,28 +13,28 @@ use Rattle.shelves.specs.Questions.{Yes, AllYes}
 use Rattle.shelves.specs.Refusals.{early}
 use Rattle.shelves.specs.Told.{reply_of}
 
-module _ (m : Model) {V : Type 0} {algebra : Ghosts V} (means : V → m.Carrier) where
+module _ (m : Model) {V : Type 0} (means : V → m.Carrier) where
   -- nothing is on the shelves or recorded
-  abbrev pub CoreFresh : Core V algebra → Type 0
+  abbrev pub CoreFresh : Core V → Type 0
   CoreFresh core = Fresh m (state_of m means core)
 
   -- no call has been made, and the promise is kept
-  abbrev pub CoreOpens : Core V algebra → Type 0
+  abbrev pub CoreOpens : Core V → Type 0
   CoreOpens core = Made m [] (state_of m means core) × Kept m [] (state_of m means core)
 
   -- every question of the call that is asked before unrolling says yes
-  abbrev pub CoreSaysYes : Call → Core V algebra → Type 0
+  abbrev pub CoreSaysYes : Call → Core V → Type 0
   CoreSaysYes call core = AllYes (Yes m (state_of m means core) call) early
 
   -- the call with its reply takes the rack from before to after as the questions and its effect say
-  abbrev pub CoreDoes : Call → Reply m → (before after : Core V algebra) → Type 0
+  abbrev pub CoreDoes : Call → Reply m → (before after : Core V) → Type 0
   CoreDoes call reply before after = Does m call reply (state_of m means before) (state_of m means after)
 
   -- and after any history the promise is kept with this call added
-  abbrev pub CoreAnswers : Call → Reply m → (before after : Core V algebra) → Type 0
+  abbrev pub CoreAnswers : Call → Reply m → (before after : Core V) → Type 0
   CoreAnswers call reply before after = Answers m call reply (state_of m means before) (state_of m means after)
 
   -- and so does a list of calls, each with its reply
-  abbrev pub CoreAnswersAll : List Given → List (Result (Answer V) Refusal) → (before after : Core V algebra) → Type 0
+  abbrev pub CoreAnswersAll : List Given → List (Result (Answer V) Refusal) → (before after : Core V) → Type 0
   CoreAnswersAll calls replies before after =
       AnswersAll m (map call_of calls) (map (reply_of m means) replies) (state_of m means before) (state_of m means after)

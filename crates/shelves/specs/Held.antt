@@ -1,7 +1,5 @@
 -- The state of a rack, from what it holds.
 use Rattle.std.specs.Prelude.{take}
-use Rattle.std.specs.declared.cmp.PartialEq.{Ghosts as Equality}
-use Rattle.algebra.specs.declared.algebra.Algebra.{Ghosts}
 use Rattle.algebra.specs.Model.{Model}
 use Rattle.rows.specs.Pieces.{meanings}
 use Rattle.shelves.specs.declared.call.Call.{Call as Made}
@@ -11,9 +9,9 @@ use Rattle.shelves.specs.Calls.{Call, node, pause, table, pair, loop, clear, rep
 use Rattle.shelves.specs.State.{State}
 use Rattle.shelves.specs.Tables.{shelves_of}
 
-abbrev pub state_of : (m : Model) {V : Type 0} {algebra : Ghosts V} {equality : Equality V} → (V → m.Carrier) → Core V algebra equality → State m
+abbrev pub state_of : (m : Model) {V : Type 0} → (V → m.Carrier) → Core V → State m
 state_of m means core = record {
-  cells = meanings means (take 2048 core.cells.now);
+  cells = meanings means (take 2048 core.cells.lent.now);
   shelves = shelves_of core.shelves;
   steps = core.steps.items;
   arcs = core.arcs.items;

@@ -13,12 +13,19 @@ use crate::telling::report;
 use algebra::algebra::Algebra;
 use algebra::arc::Arc;
 use algebra::label::Label;
+use rows::place::Place;
 
 pub fn act_node<V: Algebra>(core: &mut Core<V>, shelf: u8, label: Label) -> Reply<V>
     requires { CoreSaysYes V.model V.means (node_call shelf label) core.old }
     ensures { CoreDoes V.model V.means (node_call shelf label) (reply_of V.model V.means result) core.old core.new }
 {
-    put_node(core, shelf as usize, label);
+    put_node(
+        core,
+        Place {
+            shelf: shelf as usize,
+        },
+        label,
+    );
     Ok(Answer::Accepted(0))
 }
 
@@ -26,7 +33,13 @@ pub fn act_pause<V: Algebra>(core: &mut Core<V>, shelf: u8, label: Label) -> Rep
     requires { CoreSaysYes V.model V.means (pause_call shelf label) core.old }
     ensures { CoreDoes V.model V.means (pause_call shelf label) (reply_of V.model V.means result) core.old core.new }
 {
-    put_pause(core, shelf as usize, label);
+    put_pause(
+        core,
+        Place {
+            shelf: shelf as usize,
+        },
+        label,
+    );
     Ok(Answer::Accepted(0))
 }
 
@@ -34,7 +47,13 @@ pub fn act_table<V: Algebra>(core: &mut Core<V>, shelf: u8, arcs: &[Arc]) -> Rep
     requires { CoreSaysYes V.model V.means (table_call shelf arcs.now) core.old }
     ensures { CoreDoes V.model V.means (table_call shelf arcs.now) (reply_of V.model V.means result) core.old core.new }
 {
-    let number = put_table(core, shelf as usize, arcs)?;
+    let number = put_table(
+        core,
+        Place {
+            shelf: shelf as usize,
+        },
+        arcs,
+    )?;
     Ok(Answer::Accepted(number))
 }
 
@@ -42,9 +61,11 @@ pub fn act_loop<V: Algebra>(core: &mut Core<V>, shelf: u8) -> Reply<V>
     requires { CoreSaysYes V.model V.means (loop_call shelf) core.old }
     ensures { CoreDoes V.model V.means (loop_call shelf) (reply_of V.model V.means result) core.old core.new }
 {
-    let k = shelf as usize;
-    let i = core.shelves.at(k).step.unwrap_or(0);
-    let number = put_loop(core, k, i)?;
+    let place = Place {
+        shelf: shelf as usize,
+    };
+    let i = core.shelves.at(place.shelf).step.unwrap_or(0);
+    let number = put_loop(core, place, i)?;
     Ok(Answer::Accepted(number))
 }
 
@@ -52,7 +73,12 @@ pub fn act_clear<V: Algebra>(core: &mut Core<V>, shelf: u8) -> Reply<V>
     requires { CoreSaysYes V.model V.means (clear_call shelf) core.old }
     ensures { CoreDoes V.model V.means (clear_call shelf) (reply_of V.model V.means result) core.old core.new }
 {
-    empty(core, shelf as usize);
+    empty(
+        core,
+        Place {
+            shelf: shelf as usize,
+        },
+    );
     Ok(Answer::Accepted(0))
 }
 
@@ -61,8 +87,13 @@ pub fn shelf_report<V: Algebra>(core: &Core<V>, shelf: u8) -> Report<V>
     requires { CoreSaysYes V.model V.means (report_call shelf) core.now }
     ensures { CoreDoes V.model V.means (report_call shelf) (reported (report_of V.model V.means result)) core.now core.now }
 {
-    let shown = piece(&core.shelves, shelf as usize);
-    report(&*core.cells, shown)
+    let shown = piece(
+        &core.shelves,
+        Place {
+            shelf: shelf as usize,
+        },
+    );
+    report(&core.cells.kept(), shown)
 }
 
 pub fn act_report<V: Algebra>(core: &Core<V>, shelf: u8) -> Reply<V>
@@ -76,10 +107,14 @@ pub fn act_pair<V: Algebra>(core: &mut Core<V>, kind: Pairing, first: u8, second
     requires { CoreSaysYes V.model V.means (pair_call kind first second) core.old }
     ensures { CoreDoes V.model V.means (pair_call kind first second) (reply_of V.model V.means result) core.old core.new }
 {
-    let a = first as usize;
-    let b = second as usize;
-    let i = core.shelves.at(a).step.unwrap_or(0);
-    let j = core.shelves.at(b).step.unwrap_or(0);
+    let a = Place {
+        shelf: first as usize,
+    };
+    let b = Place {
+        shelf: second as usize,
+    };
+    let i = core.shelves.at(a.shelf).step.unwrap_or(0);
+    let j = core.shelves.at(b.shelf).step.unwrap_or(0);
     let number = put_pair(core, kind, a, b, i, j)?;
     empty(core, b);
     Ok(Answer::Accepted(number))

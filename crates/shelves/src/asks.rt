@@ -1,5 +1,5 @@
 // Asking a call's questions in their order.
-ghost use Rattle.std.specs.Prelude.{◌≡◌, ◌+◌, ◌*◌, ◌≤◌, true, false, not, length, take, is_some, None as absent, Decides, MatchResult, slice_index_or};
+ghost use Rattle.std.specs.Prelude.{◌≡◌, ◌+◌, ◌*◌, true, false, not, take, is_some, None as absent, Decides, MatchResult, slice_index_or};
 ghost use Rattle.std.specs.List.{AllByRecursion};
 ghost use Rattle.rows.specs.Pieces.{meanings};
 ghost use Rattle.shelves.specs.Calls.{about};
@@ -15,22 +15,22 @@ use crate::questions::{
 };
 use crate::refusal::Refusal;
 use algebra::algebra::Algebra;
+use rows::cells::Cells;
 
 // Is the exit of shelf k absent at tick 0?
-fn stays<V: Algebra>(cells: &[Option<V>], k: u8) -> bool
-    requires { 4096 ≤ length cells.now }
-    ensures { is_some (slice_index_or (meanings V.means (take 2048 cells.now)) (128 * k + 64 + 0) absent) ≡ not result }
+fn stays<V: Algebra>(cells: &Cells<V>, k: u8) -> bool
+    ensures { is_some (slice_index_or (meanings V.means (take 2048 cells.now.lent.now)) (128 * k + 64 + 0) absent) ≡ not result }
 {
     if k > 15 {
         return true;
     }
-    cells[128 * k as usize + 64].is_none()
+    let exit = cells.lent[128 * k as usize + 64];
+    exit.is_none()
 }
 
 // Is a loop's exit absent at tick 0?
-fn staying<V: Algebra>(cells: &[Option<V>], call: Call) -> bool
-    requires { 4096 ≤ length cells.now }
-    ensures { Decides result (AllByRecursion (λ k. is_some (slice_index_or (meanings V.means (take 2048 cells.now)) (128 * k + 64 + 0) absent) ≡ false) (about (call_of call.entry)).looped) }
+fn staying<V: Algebra>(cells: &Cells<V>, call: Call) -> bool
+    ensures { Decides result (AllByRecursion (λ k. is_some (slice_index_or (meanings V.means (take 2048 cells.now.lent.now)) (128 * k + 64 + 0) absent) ≡ false) (about (call_of call.entry)).looped) }
 {
     match call {
         Call::Loop { shelf } => stays(cells, shelf),
@@ -58,6 +58,6 @@ pub fn first_no<V: Algebra>(core: &Core<V>, call: Call) -> Result<(), Refusal>
     ask(going(call), Refusal::StateWithoutArc)?;
     ask(recordable(&core.steps, call), Refusal::StepsFull)?;
     ask(roomy(&core.arcs, call), Refusal::ArcsFull)?;
-    ask(staying(&*core.cells, call), Refusal::LeavesAtOnce)?;
+    ask(staying(&core.cells, call), Refusal::LeavesAtOnce)?;
     Ok(())
 }

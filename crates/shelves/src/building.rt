@@ -1,5 +1,5 @@
 // Building: what an accepted call does to what a rack holds.
-ghost use Rattle.std.specs.Prelude.{◌≡◌, ◌<◌, ◌≤◌, [], ◌∷◌, ◌++◌, length, take, set, Some as present};
+ghost use Rattle.std.specs.Prelude.{◌≡◌, ◌<◌, [], ◌∷◌, ◌++◌, length, take, set, Some as present};
 ghost use Rattle.rows.specs.Pieces.{meanings};
 ghost use Rattle.runs.specs.declared.step.Step.TheVariants.{Node as node_step, Pause as pause_step};
 ghost use Rattle.shelves.specs.Effects.{Puts, Empties, node_row, pause_row};
@@ -13,23 +13,24 @@ use crate::refusal::Refusal;
 use crate::shelf::Shelf;
 use algebra::algebra::Algebra;
 use algebra::label::Label;
+use rows::place::Place;
 use rows::rule::RowRule;
 use rows::shape::Shape;
 use rows::unroll::unroll;
 use runs::step::Step;
 
-// Records a step, and notes it with the shape of its rows on shelf k. Room for the step is a fact of the moment, which a
+// Records a step, and notes it with the shape of its rows on a shelf. Room for the step is a fact of the moment, which a
 // question asks, and not of the type: so it stands in each `requires`.
-fn settle<V: Algebra>(core: &mut Core<V>, k: usize, shape: Shape, step: Step)
-    requires { (k ≤ 15) × (length core.old.steps.items < 512) }
+fn settle<V: Algebra>(core: &mut Core<V>, place: Place, shape: Shape, step: Step)
+    requires { length core.old.steps.items < 512 }
     ensures cells { core.new.cells ≡ core.old.cells }
-    ensures shelves { shelves_of core.new.shelves ≡ set (shelves_of core.old.shelves) k (record { step = present (length core.old.steps.items); transient = shape.transient; period = shape.period }) }
+    ensures shelves { shelves_of core.new.shelves ≡ set (shelves_of core.old.shelves) place.shelf (record { step = present (length core.old.steps.items); transient = shape.transient; period = shape.period }) }
     ensures steps { core.new.steps.items ≡ core.old.steps.items ++ step ∷ [] }
     ensures arcs { core.new.arcs ≡ core.old.arcs }
 {
     let number = Some(core.steps.len());
     core.shelves.put(
-        k,
+        place,
         Shelf {
             step: number,
             shape,
@@ -38,17 +39,15 @@ fn settle<V: Algebra>(core: &mut Core<V>, k: usize, shape: Shape, step: Step)
     core.steps.push(step);
 }
 
-// Puts a node's rows on shelf k and records its step. A pause differs in the rows written too, so it has its own function.
-pub fn put_node<V: Algebra>(core: &mut Core<V>, k: usize, label: Label)
-    requires { (k ≤ 15) × (length core.old.steps.items < 512) }
-    ensures { Puts V.model (node_row V.model label) k (node_step label) [] (state_of V.model V.means core.old) (state_of V.model V.means core.new) }
+// Puts a node's rows on a shelf and records its step. A pause differs in the rows written too, so it has its own function.
+pub fn put_node<V: Algebra>(core: &mut Core<V>, place: Place, label: Label)
+    requires { length core.old.steps.items < 512 }
+    ensures { Puts V.model (node_row V.model label) place.shelf (node_step label) [] (state_of V.model V.means core.old) (state_of V.model V.means core.new) }
 {
-    let cells = std::mem::replace(&mut core.cells, &mut []);
-    write_node(cells, k, label);
-    core.cells = cells;
+    write_node(&mut core.cells, place, label);
     settle(
         core,
-        k,
+        place,
         Shape {
             transient: 1,
             period: 1,
@@ -57,17 +56,15 @@ pub fn put_node<V: Algebra>(core: &mut Core<V>, k: usize, label: Label)
     );
 }
 
-// Puts a pause's rows on shelf k and records its step.
-pub fn put_pause<V: Algebra>(core: &mut Core<V>, k: usize, label: Label)
-    requires { (k ≤ 15) × (length core.old.steps.items < 512) }
-    ensures { Puts V.model (pause_row V.model label) k (pause_step label) [] (state_of V.model V.means core.old) (state_of V.model V.means core.new) }
+// Puts a pause's rows on a shelf and records its step.
+pub fn put_pause<V: Algebra>(core: &mut Core<V>, place: Place, label: Label)
+    requires { length core.old.steps.items < 512 }
+    ensures { Puts V.model (pause_row V.model label) place.shelf (pause_step label) [] (state_of V.model V.means core.old) (state_of V.model V.means core.new) }
 {
-    let cells = std::mem::replace(&mut core.cells, &mut []);
-    write_pause(cells, k, label);
-    core.cells = cells;
+    write_pause(&mut core.cells, place, label);
     settle(
         core,
-        k,
+        place,
         Shape {
             transient: 2,
             period: 1,
@@ -76,32 +73,26 @@ pub fn put_pause<V: Algebra>(core: &mut Core<V>, k: usize, label: Label)
     );
 }
 
-// Empties shelf k.
-pub fn empty<V: Algebra>(core: &mut Core<V>, k: usize)
-    requires { k ≤ 15 }
-    ensures { Empties V.model k (state_of V.model V.means core.old) (state_of V.model V.means core.new) }
+// Empties a shelf.
+pub fn empty<V: Algebra>(core: &mut Core<V>, place: Place)
+    ensures { Empties V.model place.shelf (state_of V.model V.means core.old) (state_of V.model V.means core.new) }
 {
-    let cells = std::mem::replace(&mut core.cells, &mut []);
-    blank(cells, k);
-    core.cells = cells;
-    core.shelves.put(k, Shelf::empty());
+    blank(&mut core.cells, place);
+    core.shelves.put(place, Shelf::empty());
 }
 
-// Unrolls a rule onto shelf k and records its step; the reply is the number of the first repeated situation.
+// Unrolls a rule onto a shelf and records its step; the reply is the number of the first repeated situation.
 pub fn build<R: RowRule, V: Algebra>(
     core: &mut Core<V>,
     rule: &R,
-    k: usize,
+    place: Place,
     step: Step,
 ) -> Result<usize, Refusal>
-    requires { (k ≤ 15) × (length core.old.steps.items < 512) }
-    ensures does { Built V.Algebra.model (R.RowRule.works rule.now V.Algebra.model (meanings V.Algebra.means (take 2048 core.old.cells.now))) k step [] (state_of V.Algebra.model V.Algebra.means core.old) (state_of V.Algebra.model V.Algebra.means core.new) result }
+    requires { length core.old.steps.items < 512 }
+    ensures does { Built V.Algebra.model (R.RowRule.works rule.now V.Algebra.model (meanings V.Algebra.means (take 2048 core.old.cells.lent.now))) place.shelf step [] (state_of V.Algebra.model V.Algebra.means core.old) (state_of V.Algebra.model V.Algebra.means core.new) result }
     ensures arcs { core.new.arcs ≡ core.old.arcs }
 {
-    let cells = std::mem::replace(&mut core.cells, &mut []);
-    let kept = unroll(rule, cells, k);
-    core.cells = cells;
-    let unrolled = kept?;
-    settle(core, k, unrolled.shape, step);
+    let unrolled = unroll(rule, &mut core.cells, place)?;
+    settle(core, place, unrolled.shape, step);
     Ok(unrolled.reply)
 }

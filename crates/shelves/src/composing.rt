@@ -21,45 +21,44 @@ use rows::abort::Abort;
 use rows::choice::Choice;
 use rows::fork::Fork;
 use rows::piece::Piece;
+use rows::place::Place;
 use rows::repeat::Repeat;
 use rows::sequence::Sequence;
 use rows::table::Table;
 use runs::step::Step;
 
-// The piece on shelf k.
-pub fn piece(shelves: &Shelves, k: usize) -> Piece
-    requires { k ≤ 15 }
-    ensures shelf { result.shelf ≡ k }
-    ensures transient { result.shape.transient ≡ (slice_index_or (shelves_of shelves.now) k empty_shelf).transient }
-    ensures period { result.shape.period ≡ (slice_index_or (shelves_of shelves.now) k empty_shelf).period }
+// The piece on a shelf.
+pub fn piece(shelves: &Shelves, place: Place) -> Piece
+    ensures place { result.place ≡ place }
+    ensures transient { result.shape.transient ≡ (slice_index_or (shelves_of shelves.now) place.shelf empty_shelf).transient }
+    ensures period { result.shape.period ≡ (slice_index_or (shelves_of shelves.now) place.shelf empty_shelf).period }
 {
-    let shelf = shelves.at(k);
     Piece {
-        shelf: k,
-        shape: shelf.shape,
+        place,
+        shape: shelves.at(place.shelf).shape,
     }
 }
 
-// A loop of the piece on shelf k, whose step is i.
-pub fn put_loop<V: Algebra>(core: &mut Core<V>, k: usize, i: usize) -> Result<usize, Refusal>
-    requires { (k ≤ 15) × (length core.old.steps.items < 512) }
-    ensures { Built V.model (loop_rule V.model (shelf_rows (state_of V.model V.means core.old) k)) k (loop_step i) [] (state_of V.model V.means core.old) (state_of V.model V.means core.new) result }
+// A loop of the piece on a shelf, whose step is i.
+pub fn put_loop<V: Algebra>(core: &mut Core<V>, place: Place, i: usize) -> Result<usize, Refusal>
+    requires { length core.old.steps.items < 512 }
+    ensures { Built V.model (loop_rule V.model (shelf_rows (state_of V.model V.means core.old) place.shelf)) place.shelf (loop_step i) [] (state_of V.model V.means core.old) (state_of V.model V.means core.new) result }
 {
-    let a = piece(&core.shelves, k);
-    build(core, &Repeat { a }, k, Step::Repeat { of: i })
+    let a = piece(&core.shelves, place);
+    build(core, &Repeat { a }, place, Step::Repeat { of: i })
 }
 
 // The pieces on shelves a and b, whose steps are i and j, put together on shelf a.
 pub fn put_pair<V: Algebra>(
     core: &mut Core<V>,
     kind: Pairing,
-    first: usize,
-    second: usize,
+    first: Place,
+    second: Place,
     i: usize,
     j: usize,
 ) -> Result<usize, Refusal>
-    requires { (first ≤ 15) × ((second ≤ 15) × (length core.old.steps.items < 512)) }
-    ensures { Built V.model (pair_rule V.model kind (shelf_rows (state_of V.model V.means core.old) first) (shelf_rows (state_of V.model V.means core.old) second)) first (pair_step kind i j) [] (state_of V.model V.means core.old) (state_of V.model V.means core.new) result }
+    requires { length core.old.steps.items < 512 }
+    ensures { Built V.model (pair_rule V.model kind (shelf_rows (state_of V.model V.means core.old) first.shelf) (shelf_rows (state_of V.model V.means core.old) second.shelf)) first.shelf (pair_step kind i j) [] (state_of V.model V.means core.old) (state_of V.model V.means core.new) result }
 {
     let a = piece(&core.shelves, first);
     let b = piece(&core.shelves, second);
@@ -104,16 +103,20 @@ pub fn put_pair<V: Algebra>(
     }
 }
 
-// A table of arcs on shelf k, which are recorded with it.
-pub fn put_table<V: Algebra>(core: &mut Core<V>, k: usize, arcs: &[Arc]) -> Result<usize, Refusal>
-    requires { (k ≤ 15) × ((length core.old.steps.items < 512) × (length core.old.arcs.items + length arcs.now ≤ 512)) }
-    ensures { Built V.model (table_rule V.model arcs.now) k (table_step (length (state_of V.model V.means core.old).arcs) (length arcs.now)) arcs.now (state_of V.model V.means core.old) (state_of V.model V.means core.new) result }
+// A table of arcs on a shelf, which are recorded with it.
+pub fn put_table<V: Algebra>(
+    core: &mut Core<V>,
+    place: Place,
+    arcs: &[Arc],
+) -> Result<usize, Refusal>
+    requires { (length core.old.steps.items < 512) × (length core.old.arcs.items + length arcs.now ≤ 512) }
+    ensures { Built V.model (table_rule V.model arcs.now) place.shelf (table_step (length (state_of V.model V.means core.old).arcs) (length arcs.now)) arcs.now (state_of V.model V.means core.old) (state_of V.model V.means core.new) result }
 {
     let step = Step::Table {
         first: core.arcs.len(),
         count: arcs.len(),
     };
-    let reply = build(core, &Table { arcs }, k, step)?;
+    let reply = build(core, &Table { arcs }, place, step)?;
     core.arcs.try_extend_from_slice(arcs).unwrap();
     Ok(reply)
 }

@@ -1,14 +1,11 @@
 // What a rack of either kind holds: the lent cells and its tables.
-ghost use Rattle.std.specs.Prelude.{◌≤◌, length};
-
 use crate::tables::{Arcs, Shelves, Steps};
-use algebra::algebra::Algebra;
+use rows::cells::Cells;
 
 #[derive(Drop)]
-pub struct Core<'a, V: Algebra> {
-    pub cells: &'a mut [Option<V>],
+pub struct Core<'a, V> {
+    pub cells: Cells<'a, V>,
     pub shelves: Shelves,
     pub steps: Steps,
     pub arcs: Arcs,
-    ghost room: { 4096 ≤ length cells.now },
 }

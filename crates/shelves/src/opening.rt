@@ -1,10 +1,11 @@
 // Opening: what a rack of either kind holds at first.
-ghost use Rattle.std.specs.Prelude.{◌≡◌, ℕ, ◌<◌, ◌≤◌, [], length, drop, None as absent, Decides, slice_index_or, slice_set};
+ghost use Rattle.std.specs.Prelude.{◌≡◌, ℕ, ◌<◌, ◌≤◌, [], length, drop, None as absent, Decides, slice_index_or};
 ghost use Rattle.shelves.specs.Cores.{CoreFresh, CoreOpens};
 
 use crate::core_state::Core;
 use crate::tables::{Arcs, Shelves, Steps};
 use algebra::algebra::Algebra;
+use rows::cells::Cells;
 
 // Are at least 4,096 cells lent?
 pub fn enough<V: Algebra>(cells: &[Option<V>]) -> bool
@@ -13,36 +14,26 @@ pub fn enough<V: Algebra>(cells: &[Option<V>]) -> bool
     cells.len() >= 4096
 }
 
-// Sets cell k to absent.
-fn drop_cell<V: Algebra>(cells: &mut [Option<V>], k: usize)
-    requires { k < length cells.old }
-    ensures { cells.new ≡ slice_set cells.old k absent }
-{
-    cells[k] = None;
-}
-
 // Sets the first 4,096 cells to absent.
 fn wipe<V: Algebra>(cells: &mut [Option<V>])
     requires { 4096 ≤ length cells.old }
     ensures blank { (j : ℕ) → j < 4096 → slice_index_or cells.new j absent ≡ absent }
     ensures past { drop 4096 cells.new ≡ drop 4096 cells.old }
 {
-    for k in 0..4096 {
-        drop_cell(cells, k);
-    }
+    cells[..4096].fill(None);
 }
 
 // Opens over lent cells: those past the first 4,096 are untouched. The history begins.
 pub fn open<'a, V: Algebra>(cells: &'a mut [Option<V>]) -> Core<'a, V>
     requires { 4096 ≤ length cells.old }
-    ensures blank { (j : ℕ) → j < 4096 → slice_index_or result.cells.now j absent ≡ absent }
-    ensures past { drop 4096 result.cells.now ≡ drop 4096 cells.old }
+    ensures blank { (j : ℕ) → j < 4096 → slice_index_or result.cells.lent.now j absent ≡ absent }
+    ensures past { drop 4096 result.cells.lent.now ≡ drop 4096 cells.old }
     ensures fresh { CoreFresh V.model V.means result }
     ensures promise { CoreOpens V.model V.means result }
 {
     wipe(cells);
     Core {
-        cells,
+        cells: Cells { lent: cells },
         shelves: Shelves::new(),
         steps: Steps::new(),
         arcs: Arcs::new(),

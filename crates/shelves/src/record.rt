@@ -1,10 +1,11 @@
 // Shelves as they are read and written.
-ghost use Rattle.std.specs.Prelude.{◌≡◌, ◌<◌, replicate, slice_index_or, slice_set};
+ghost use Rattle.std.specs.Prelude.{◌≡◌, replicate, slice_index_or, slice_set};
 ghost use Rattle.shelves.specs.State.{empty_shelf};
 ghost use Rattle.shelves.specs.Tables.{shelf_of, shelves_of};
 
 use crate::shelf::Shelf;
 use crate::tables::Shelves;
+use rows::place::Place;
 use rows::shape::Shape;
 
 impl Shelf {
@@ -42,10 +43,9 @@ impl Shelves {
         }
     }
 
-    pub fn put(&mut self, k: usize, shelf: Shelf)
-        requires { k < 16 }
-        ensures { shelves_of self.new ≡ slice_set (shelves_of self.old) k (shelf_of shelf) }
+    pub fn put(&mut self, place: Place, shelf: Shelf)
+        ensures { shelves_of self.new ≡ slice_set (shelves_of self.old) place.shelf (shelf_of shelf) }
     {
-        self.items[k] = shelf;
+        self.items[place.shelf] = shelf;
     }
 }

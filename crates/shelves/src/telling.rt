@@ -1,5 +1,5 @@
 // Telling of a shelf: the figure of its rows, and the first tick that reaches it.
-ghost use Rattle.std.specs.Prelude.{◌≡◌, ◌+◌, ◌<◌, ◌≤◌, true, length, take, Some as present};
+ghost use Rattle.std.specs.Prelude.{◌≡◌, ◌+◌, ◌<◌, true, Some as present};
 ghost use Rattle.std.specs.Option.{option_map};
 ghost use Rattle.algebra.specs.Coefficients.{join as joined};
 ghost use Rattle.rows.specs.Pieces.{rows_of, meanings, size, pause_at, exit_at};
@@ -10,59 +10,52 @@ ghost use Rattle.shelves.specs.Told.{report_of};
 use crate::report::Report;
 use algebra::algebra::Algebra;
 use algebra::coefficient::{equal, join};
+use rows::cells::Kept;
 use rows::piece::{Piece, Row};
 
 // Both rows joined at phase k, which is the tick k too.
-fn both<V: Algebra>(piece: &Piece, cells: &[Option<V>], k: usize) -> Option<V>
-    requires phase { k < piece.now.shape.transient + piece.now.shape.period }
-    requires room { 2048 ≤ length cells.now }
-    ensures { let given = rows_of V.model (meanings V.means cells.now) piece.now in option_map V.means result ≡ joined V.model (pause_at given k) (exit_at given k) }
+fn both<V: Algebra>(piece: &Piece, kept: &Kept<V>, k: usize) -> Option<V>
+    requires { k < piece.now.shape.transient + piece.now.shape.period }
+    ensures { let given = rows_of V.model (meanings V.means kept.now.cells.now) piece.now in option_map V.means result ≡ joined V.model (pause_at given k) (exit_at given k) }
 {
-    join(
-        piece.at(Row::Pause, cells, k),
-        piece.at(Row::Exit, cells, k),
-    )
+    join(piece.at(Row::Pause, kept, k), piece.at(Row::Exit, kept, k))
 }
 
 // The join of both rows over all phases.
-fn figure<V: Algebra>(piece: &Piece, cells: &[Option<V>]) -> Option<V>
-    requires { 2048 ≤ length cells.now }
-    ensures { let given = rows_of V.model (meanings V.means cells.now) piece.now in option_map V.means result ≡ figure_of V.model (pause_at given) (exit_at given) (size given) }
+fn figure<V: Algebra>(piece: &Piece, kept: &Kept<V>) -> Option<V>
+    ensures { let given = rows_of V.model (meanings V.means kept.now.cells.now) piece.now in option_map V.means result ≡ figure_of V.model (pause_at given) (exit_at given) (size given) }
 {
     let mut all = None;
     for k in 0..piece.shape.size() {
-        all = join(all, both(piece, cells, k));
+        all = join(all, both(piece, kept, k));
     }
     all
 }
 
 // The first tick at which both rows joined are the figure: where the algebra chooses, some phase has it.
-fn first_tick<V: Algebra>(piece: &Piece, cells: &[Option<V>], figure: Option<V>) -> usize
+fn first_tick<V: Algebra>(piece: &Piece, kept: &Kept<V>, figure: Option<V>) -> usize
     requires chooses { V.model.chooses ≡ true }
-    requires room { 2048 ≤ length cells.now }
-    requires whole { let given = rows_of V.model (meanings V.means cells.now) piece.now in option_map V.means figure ≡ figure_of V.model (pause_at given) (exit_at given) (size given) }
-    ensures { FirstTick V.model true (option_map V.means figure) (rows_of V.model (meanings V.means cells.now) piece.now) (present result) }
+    requires whole { let given = rows_of V.model (meanings V.means kept.now.cells.now) piece.now in option_map V.means figure ≡ figure_of V.model (pause_at given) (exit_at given) (size given) }
+    ensures { FirstTick V.model true (option_map V.means figure) (rows_of V.model (meanings V.means kept.now.cells.now) piece.now) (present result) }
 {
     for tick in 0..piece.shape.size() {
-        if equal(both(piece, cells, tick), figure) {
+        if equal(both(piece, kept, tick), figure) {
             return tick;
         }
     }
     unreachable()
 }
 
-// The report of a piece on the shelves, which are the first 2,048 cells.
-pub fn report<V: Algebra>(cells: &[Option<V>], piece: Piece) -> Report<V>
-    requires { 2048 ≤ length cells.now }
-    ensures figure { let given = rows_of V.model (meanings V.means (take 2048 cells.now)) piece in (report_of V.model V.means result).figure ≡ figure_of V.model (pause_at given) (exit_at given) (size given) }
-    ensures tick { FirstTick V.model V.model.chooses (report_of V.model V.means result).figure (rows_of V.model (meanings V.means (take 2048 cells.now)) piece) (report_of V.model V.means result).tick }
+// The report of a piece on the shelves.
+pub fn report<V: Algebra>(kept: &Kept<V>, piece: Piece) -> Report<V>
+    ensures figure { let given = rows_of V.model (meanings V.means kept.now.cells.now) piece in (report_of V.model V.means result).figure ≡ figure_of V.model (pause_at given) (exit_at given) (size given) }
+    ensures tick { FirstTick V.model V.model.chooses (report_of V.model V.means result).figure (rows_of V.model (meanings V.means kept.now.cells.now) piece) (report_of V.model V.means result).tick }
     ensures transient { (report_of V.model V.means result).transient ≡ piece.shape.transient }
     ensures period { (report_of V.model V.means result).period ≡ piece.shape.period }
 {
-    let shelves = &cells[..2048];
-    let figure = figure(&piece, shelves);
+    let figure = figure(&piece, kept);
     let tick = if V::chooses() {
-        Some(first_tick(&piece, shelves, figure))
+        Some(first_tick(&piece, kept, figure))
     } else {
         None
     };

@@ -20,8 +20,7 @@ returns g c =
     let p = c.piece-shown.ensures in
     let r = c.report.ensures in
     let told = report_of m f c.report.result in
-    let cells = meanings f (take 2048 core.cells.now) in
-    let is : ◌≡◌ {A = Rows m} _ _ = λ i. on_shelf m cells (p.shelf i) (p.transient i) (p.period i) in (
+    let is : ◌≡◌ {A = Rows m} _ _ = λ i. on_shelf m (meanings f (c.kept.ensures i)) (p.place i).shelf (p.transient i) (p.period i) in (
       all_then (Yes m s (report c.args.shelf)) early (NeverRepeats ∷ TooLong ∷ []) c.requires (tt, (tt, tt)),
       record {
         figure = r.figure ∙ ap (λ (given : Rows m). figure m (pause_at given) (exit_at given) (size given)) is;

@@ -20,13 +20,12 @@ returns g c =
     let over = λ (cs : List (Coef m)). g.R.RowRule.works c.args.rule.now m cs in
     let core = c.args.core.now in
     let after = c.settle.new.core in
-    let k = c.args.k in
+    let k = c.args.place.shelf in
     let u = c.in_ok-unrolled.unrolled in
     let t = u.shape.transient in
     let d = u.shape.period in
-    let was = ap (λ r. r.now) c.replace-cells.ensures.value in
-    let is = ap (λ r. r.now) c.settle.ensures.cells in
-    let unrolled = subst (λ xs. Unrolls (over (meanings f (take 2048 xs))) u.reply k t d (meanings f (take 2048 c.unroll-kept.new.cells))) was c.in_ok-unrolled.ensures.cases in
+    let is = ap (λ r. r.lent.now) c.settle.ensures.cells in
+    let unrolled = c.in_ok-unrolled.ensures.cases in
     record {
       does = (
         (unrolled.soon, unrolled.first),
@@ -34,9 +33,9 @@ returns g c =
           transient = t;
           period = d;
           short = u.shape.most;
-          keeps = subst (λ xs. Keeps m (rows (over (meanings f (take 2048 core.cells.now)))) k t d (meanings f (take 2048 xs))) (sym is) unrolled.keeps;
-          others = others_mean f (OfShelf k) core.cells.now after.cells.now
-              (λ j less out. ap (λ xs. get_or xs j None) is ∙ c.in_ok-unrolled.ensures.others j less (apart k j out) ∙ ap (λ xs. get_or xs j None) was);
+          keeps = subst (λ xs. Keeps m (rows (over (meanings f (take 2048 core.cells.lent.now)))) k t d (meanings f (take 2048 xs))) (sym is) unrolled.keeps;
+          others = others_mean f (OfShelf k) core.cells.lent.now after.cells.lent.now
+              (λ j less out. ap (λ xs. get_or xs j None) is ∙ c.in_ok-unrolled.ensures.others j less (apart k j out));
           shelves = c.settle.ensures.shelves;
           steps = c.settle.ensures.steps;
           arcs = ap (λ a. a.items) c.settle.ensures.arcs ∙ sym (append-nil core.arcs.items);
@@ -53,13 +52,11 @@ returns-in_err-unrolled g c =
     let core = c.args.core.now in
     let p = err_from_is_err_and c.from_residual.result c.from_residual.ensures.1 in
     let no = c.in_err-unrolled.field-0.0 in
-    let was = ap (λ r. r.now) c.replace-cells.ensures.value in
     let refusal = c.in_err-unrolled.ensures.cases in
-    let here = subst (λ xs. Refused (over (meanings f (take 2048 xs))) no) was refusal.0 in
-    let same = ap (meanings f) (refusal.1 ∙ ap (take 2048) was) in
+    let same = ap (meanings f) refusal.1 in
     record {
       does = rw (p.1, p.2) (
-        stopped (over (meanings f (take 2048 core.cells.now))) no here,
+        stopped (over (meanings f (take 2048 core.cells.lent.now))) no refusal.0,
         λ i. record { cells = same i; shelves = shelves_of core.shelves; steps = core.steps.items; arcs = core.arcs.items },
       );
       arcs = refl;

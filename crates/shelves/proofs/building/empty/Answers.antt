@@ -1,4 +1,4 @@
-use Rattle.std.proofs.Common.{get_or, set, None, refl, ap, ◌∙◌}
+use Rattle.std.proofs.Common.{set, refl, ap, ◌∙◌}
 use Rattle.shelves.specs.Effects.{OfShelf}
 use Rattle.shelves.specs.Tables.{shelves_of}
 use Rattle.shelves.proofs.Unchanged.{others_mean}
@@ -7,12 +7,10 @@ use Rattle.shelves.proofs.building.empty.Goals as goal
 pub returns : goal.returns
 returns g c =
     let core = c.args.core.now in
-    let was = ap (λ r. r.now) c.replace-cells.ensures.value in
     record {
       blank = c.blank.ensures.blank;
-      others = others_mean g.V.Algebra.means (OfShelf c.args.k) core.cells.now c.blank.new.cells
-          (λ j less out. c.blank.ensures.others j less out ∙ ap (λ xs. get_or xs j None) was);
-      shelves = c.put.ensures ∙ ap (set (shelves_of core.shelves) c.args.k) c.empty.ensures;
+      others = others_mean g.V.Algebra.means (OfShelf c.args.place.shelf) core.cells.lent.now c.blank.new.cells.lent.now c.blank.ensures.others;
+      shelves = c.put.ensures ∙ ap (set (shelves_of core.shelves) c.args.place.shelf) c.empty.ensures;
       steps = refl;
       arcs = refl;
     }

@@ -12,15 +12,14 @@ returns g c =
     let f = g.V.Algebra.means in
     let core = c.args.core.now in
     let after = c.settle.new.core in
-    let was = ap (λ r. r.now) c.replace-cells.ensures.value in
-    let is = ap (λ r. r.now) c.settle.ensures.cells in
+    let is = ap (λ r. r.lent.now) c.settle.ensures.cells in
     record {
       transient = 2;
       period = 1;
       short = omega arith;
-      keeps = subst (λ xs. Keeps m (pause_row m c.args.label) c.args.k 2 1 (meanings f (take 2048 xs))) (sym is) c.write_pause.ensures.keeps;
-      others = others_mean f (OfShelf c.args.k) core.cells.now after.cells.now
-          (λ j less out. ap (λ xs. get_or xs j None) is ∙ c.write_pause.ensures.others j less out ∙ ap (λ xs. get_or xs j None) was);
+      keeps = subst (λ xs. Keeps m (pause_row m c.args.label) c.args.place.shelf 2 1 (meanings f (take 2048 xs))) (sym is) c.write_pause.ensures.keeps;
+      others = others_mean f (OfShelf c.args.place.shelf) core.cells.lent.now after.cells.lent.now
+          (λ j less out. ap (λ xs. get_or xs j None) is ∙ c.write_pause.ensures.others j less out);
       shelves = c.settle.ensures.shelves;
       steps = c.settle.ensures.steps;
       arcs = ap (λ a. a.items) c.settle.ensures.arcs ∙ sym (append-nil core.arcs.items);

@@ -6,12 +6,12 @@ use Rattle.shelves.proofs.leaves.blank.Goals as goal
 
 pub returns : goal.returns
 returns g c =
-    let cells = c.args.cells.now in
-    let after = c.fill.new.cells in
-    let k = c.args.k in
+    let cells = c.args.cells.now.lent.now in
+    let after = c.fill.new.self.lent.now in
+    let k = c.args.place.shelf in
     let f = g.V.Algebra.means in
     record {
       blank = λ j of. means_below f after 2048 j (omega arith) ∙ means_at f after j ∙ ap (option_map f) (filled_blank cells after k c.fill.ensures j of);
-      others = fill_others cells cells after k 0 c.fill.ensures (omega arith) refl;
-      past = fill_past cells cells after k 0 c.fill.ensures (omega arith) refl;
+      others = fill_others cells cells after k 0 c.fill.ensures c.args.place.within refl;
+      past = fill_past cells cells after k 0 c.fill.ensures c.args.place.within refl;
     }

@@ -1,15 +1,13 @@
-use Rattle.std.proofs.Common.{◌≡◌, ◌≢◌, get_or, drop, None, ap, ◌∙◌, arith}
-use Rattle.std.proofs.lemmas.List.{get_or-set_same, get_or-set_other, drop-set-lt}
-use Rattle.rows.proofs.Ranges.{up_to}
+use Rattle.std.proofs.Common.{ℕ, get_or, drop, length, None, ap, ◌∙◌, arith, rules}
+use Rattle.std.proofs.lemmas.List.{get_or_append_left, get_or-replicate, length-take}
+use Rattle.std.proofs.lemmas.Slice.{drop-append-drop}
 use Rattle.shelves.proofs.opening.wipe.Goals as goal
 
-pub loop-k-preserved : goal.loop-k-preserved
-loop-k-preserved g c =
-    let cells = c.loop-k.cells in
-    let k = c.loop-k.k in
-    let wrote = c.drop_cell.ensures in (
-      up_to (λ j. get_or c.drop_cell.new.cells j None ≡ None) 0 k
-          (λ j low less. let other : j ≢ k = omega arith in ap (λ xs. get_or xs j None) wrote ∙ get_or-set_other cells k j None None other ∙ c.loop-k.invariant.0 j low less)
-          (ap (λ xs. get_or xs k None) wrote ∙ get_or-set_same cells k None None (omega arith)),
-      ap (drop 4096) wrote ∙ drop-set-lt 4096 cells k None (omega arith) ∙ c.loop-k.invariant.1,
-    )
+pub returns-clause-blank : goal.returns-clause-blank
+returns-clause-blank g c = λ j less.
+    get_or_append_left c.fill.new.self _ None j (rw c.fill.ensures.len (simp length-take (omega arith)))
+    ∙ ap (λ xs. get_or xs j None) (c.fill.ensures.after (λ y e. search rules))
+    ∙ get_or-replicate _ j None None (simp length-take (omega arith))
+
+pub returns-clause-past : goal.returns-clause-past
+returns-clause-past g c = drop-append-drop 4096 c.args.cells.now c.fill.new.self 4096 (omega arith) (rw c.fill.ensures.len (simp length-take (omega arith)))
