@@ -4,7 +4,7 @@ use Rattle.std.proofs.lemmas.Bool.Decides.{Decides-like}
 use Rattle.algebra.specs.Held.{Held}
 use Rattle.algebra.specs.Models.{top, worst, best}
 use Rattle.algebra.specs.HeldLemmas as held
-use Rattle.rows.proofs.Cells.{decides_pair}
+use Rattle.rows.proofs.Meanings.{decides_pair}
 use Rattle.cases.proofs.Working.{Compared}
 
 -- are the two coefficients the same?

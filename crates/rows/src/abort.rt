@@ -21,7 +21,7 @@ impl RowRule for Abort {
 
     ghost works = { λ r m cells. the_abort m (rows_of m cells r.h) (rows_of m cells r.a) };
 
-    fn first<V: Algebra>(&self, kept: &Kept<V>) -> Situation {
+    fn first<V: Algebra>(&self) -> Situation {
         Situation {
             wa: true,
             ..Situation::default()

@@ -21,7 +21,7 @@ impl RowRule for Choice {
 
     ghost works = { λ r m cells. the_choice m (rows_of m cells r.a) (rows_of m cells r.b) };
 
-    fn first<V: Algebra>(&self, kept: &Kept<V>) -> Situation {
+    fn first<V: Algebra>(&self) -> Situation {
         Situation::default()
     }
 

@@ -21,7 +21,7 @@ impl RowRule for Fork {
 
     ghost works = { λ r m cells. the_fork m (rows_of m cells r.a) (rows_of m cells r.b) };
 
-    fn first<V: Algebra>(&self, kept: &Kept<V>) -> Situation {
+    fn first<V: Algebra>(&self) -> Situation {
         Situation::default()
     }
 

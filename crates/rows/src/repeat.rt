@@ -35,7 +35,7 @@ impl RowRule for Repeat {
 
     ghost works = { λ r m cells. the_loop m (rows_of m cells r.a) };
 
-    fn first<V: Algebra>(&self, kept: &Kept<V>) -> Situation {
+    fn first<V: Algebra>(&self) -> Situation {
         Situation {
             wa: true,
             ..Situation::default()

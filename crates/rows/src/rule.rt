@@ -26,8 +26,8 @@ pub trait RowRule {
     // the rule over the cells of its pieces, for any algebra: its meaning is the two rows of it
     ghost works: { Self → (m : Model) → List (Coef m) → Rule m };
 
-    fn first<V: Algebra>(&self, kept: &Kept<V>) -> Situation
-        ensures value { result ≡ (works self.now V.Algebra.model (meanings V.Algebra.means kept.now.cells.now)).first }
+    fn first<V: Algebra>(&self) -> Situation
+        ensures value { (cells : List (Coef V.Algebra.model)) → result ≡ (works self.now V.Algebra.model cells).first }
         ensures fits { fits self.now result };
 
     fn look<V: Algebra>(&self, kept: &Kept<V>, s: Situation) -> Tick<V>

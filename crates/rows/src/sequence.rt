@@ -22,7 +22,7 @@ impl RowRule for Sequence {
 
     ghost works = { λ r m cells. the_sequence m (rows_of m cells r.a) (rows_of m cells r.b) };
 
-    fn first<V: Algebra>(&self, kept: &Kept<V>) -> Situation {
+    fn first<V: Algebra>(&self) -> Situation {
         Situation::default()
     }
 

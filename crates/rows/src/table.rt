@@ -57,7 +57,7 @@ impl RowRule for Table<'_> {
 
     ghost works = { λ r m cells. the_table m r.arcs.now };
 
-    fn first<V: Algebra>(&self, kept: &Kept<V>) -> Situation {
+    fn first<V: Algebra>(&self) -> Situation {
         Situation {
             set: 1,
             ..Situation::default()

@@ -31,7 +31,7 @@ pub fn walk<R: RowRule, V: Algebra>(rule: &R, cells: &mut Cells<V>) -> Option<Tu
     ensures cases { let over = R.RowRule.works rule.now V.Algebra.model (meanings V.Algebra.means (take 2048 cells.old.lent.now)) in MatchOption result (NoRepeat (at over) 1024) (λ t. (t.number < 1024) × (t.earlier < t.number) × (at over t.earlier ≡ at over t.number) × NoRepeat (at over) t.number × ((k : ℕ) → k < t.number → noted V.Algebra.model (meanings V.Algebra.means cells.new.lent.now) k ≡ rows over k)) }
 {
     let mut seen = Situations::new();
-    let mut s = rule.first(&cells.kept());
+    let mut s = rule.first::<V>();
     // n is the number that is answered and the tick that is noted
     for n in 0..1024 {
         if let Some(earlier) = seen.find(s) {

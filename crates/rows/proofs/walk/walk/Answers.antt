@@ -22,8 +22,7 @@ pub loop-n-init : goal.loop-n-init
 loop-n-init g c = (
   record {
     here =
-        c.first-s.ensures.value
-        ∙ ap (λ cells. (g.R.RowRule.works c.args.rule.now g.V.Algebra.model (meanings g.V.Algebra.means cells)).first) c.kept.ensures;
+        c.first-s.ensures.value (meanings g.V.Algebra.means (take 2048 c.args.cells.now.lent.now));
     seen = λ k low less. absurd (omega arith);
     fresh = λ j k low less. absurd (omega arith);
     kept = λ k low less. absurd (omega arith);
@@ -46,7 +45,7 @@ loop-n-preserved g c =
     let e = c.look-pause.result.exit in
     let room : 4096 ≤ length cells = omega arith in
     let same = c.loop-n.invariant.2 in
-    let shelves = ap (meanings f) (c.kept-in-loop-n.ensures ∙ same) in
+    let shelves = ap (meanings f) (c.kept.ensures ∙ same) in
     let few = c.loop-n-test.true in
     let count = c.loop-n.invariant.4 in
     let items = situations c.loop-n.seen.noted.items in
