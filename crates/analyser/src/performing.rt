@@ -1,8 +1,7 @@
 // Records performed on a rack, each as its call.
 ghost use Rattle.program.specs.Entries.{entry};
 ghost use Rattle.shelves.specs.Changing.{answered};
-ghost use Rattle.shelves.specs.Held.{state_of};
-ghost use Rattle.shelves.specs.Promise.{Answers};
+ghost use Rattle.shelves.specs.Cores.{CoreAnswers};
 ghost use Rattle.analyser.specs.Cores.{CoreTook};
 ghost use Rattle.analyser.specs.Records.{as_call};
 
@@ -13,7 +12,7 @@ use rack::rack::Rack;
 use shelves::refusal::Refusal;
 
 fn perform<V: Algebra>(rack: &mut Rack<V>, of: &Record) -> Result<usize, Refusal>
-    ensures { Answers V.model (as_call (entry of.now)) (answered V.model result) (state_of V.model V.means rack.old.core) (state_of V.model V.means rack.new.core) }
+    ensures { CoreAnswers V.model V.means (as_call (entry of.now)) (answered V.model result) rack.old.core rack.new.core }
 {
     match of {
         Record::Node { shelf, label } => rack.node(*shelf, *label),

@@ -1,6 +1,5 @@
 -- What calls by ticket give, and the replies that histories have of them.
 use Rattle.std.specs.Prelude.{◌≡◌, ℕ, Ok, Err, Result, IfOk, MatchResult}
-use Rattle.algebra.specs.declared.algebra.Algebra.{Ghosts}
 use Rattle.algebra.specs.Model.{Model}
 use Rattle.shelves.specs.declared.call.Pairing.{Pairing}
 use Rattle.shelves.specs.declared.core_state.Core.{Core}
@@ -39,19 +38,19 @@ abbrev pub pair_reply : (m : Model) → Result Built BothBack → Reply m
 pair_reply m (Ok built) = accepted built.number
 pair_reply m (Err back) = refused back.why
 
-module _ (m : Model) {V : Type 0} {algebra : Ghosts V} (means : V → m.Carrier) where
+module _ (m : Model) {V : Type 0} (means : V → m.Carrier) where
   -- the ticket names a filled shelf of what a rack holds
-  abbrev pub NamesIn : Core V algebra → Ticket → Type 0
+  abbrev pub NamesIn : Core V → Ticket → Type 0
   NamesIn core ticket = Names (state_of m means core) ticket
 
   -- what a leaf's call gives: its answer, and where it is accepted a ticket that names the leaf's filled shelf
-  pub record LeafGives (call : Call) (shelf : ℕ) (result : Result Built Refusal) (before after : Core V algebra) : Type 0 where
+  pub record LeafGives (call : Call) (shelf : ℕ) (result : Result Built Refusal) (before after : Core V) : Type 0 where
     pub answers : CoreAnswers m means call (leaf_reply m result) before after
     pub ticket : IfOk result (λ built. built.ticket.shelf ≡ shelf)
     pub names : IfOk result (λ built. NamesIn after built.ticket)
 
   -- what a call that puts two tickets together gives: its answer, and the first, which then names the filled shelf, or both back
-  pub record PairGives (kind : Pairing) (first second : Ticket) (result : Result Built BothBack) (before after : Core V algebra) : Type 0 where
+  pub record PairGives (kind : Pairing) (first second : Ticket) (result : Result Built BothBack) (before after : Core V) : Type 0 where
     pub answers : CoreAnswers m means (pair kind first.shelf second.shelf) (pair_reply m result) before after
     pub ticket : MatchResult result (λ built. built.ticket ≡ first) (λ back. (back.first ≡ first) × (back.second ≡ second))
     pub names : IfOk result (λ built. NamesIn after built.ticket)
