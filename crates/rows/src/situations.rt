@@ -9,7 +9,7 @@ use arrayvec::ArrayVec;
 #[derive(Drop)]
 pub struct Situations {
     pub noted: ArrayVec<Noted, 1024>,
-    // the newest number of each chain
+    // the newest number of each chain; a map would need the heap, which a rack does not have
     newest: [Option<u16>; 256],
     ghost heads_long: { length newest ≡ 256 },
     ghost headed: { Heads noted.items newest },
