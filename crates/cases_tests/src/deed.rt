@@ -4,6 +4,7 @@ use algebra::arc::{Arc, OUT};
 use algebra::label::Label;
 use rack::rack::Rack;
 use shelves::refusal::Refusal;
+use std::array;
 
 // A call by its shelves and its cost or its states.
 #[derive(Clone, Copy)]
@@ -50,12 +51,11 @@ fn arc(from: u8, to: u8, cycles: u32) -> Arc {
 }
 
 fn ring(states: u8) -> [Arc; 65] {
-    let mut arcs = [arc(0, 0, 1); 65];
-    for k in 0..65u8 {
+    array::from_fn(|place| {
+        let k = place as u8;
         let next = if k + 1 == states { 0 } else { k + 1 };
-        arcs[k as usize] = arc(k, next, if k == 0 { 1 } else { 0 });
-    }
-    arcs
+        arc(k, next, if k == 0 { 1 } else { 0 })
+    })
 }
 
 // The first arcs of a list.

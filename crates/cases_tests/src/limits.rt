@@ -3,6 +3,7 @@ use crate::deed::Deed::*;
 use crate::deed::States::*;
 use crate::script::Line::*;
 use crate::script::{Line, under_each};
+use std::array;
 use std::test::*;
 
 // Four nodes of the most cycles, then one of 2: the sum is one below the top. With one of 3 it is at the top.
@@ -74,16 +75,14 @@ fn rings(rt: HostRuntime) -> Result<(), Fail> {
 
 // Pauses of 1 to 62 cycles in sequence are kept, one more is refused.
 fn pauses() -> [Line; 127] {
-    let mut script = [Done(Pause(0, 1), 0); 127];
-    for k in 1..62usize {
-        script[2 * k - 1] = Done(Pause(1, k as u32 + 1), 0);
-        script[2 * k] = Done(Sequence(0, 1), k + 3);
-    }
-    script[123] = Report(0, (62, 61), (0, 62), 0xffff_ffff, (63, 1));
-    script[124] = Done(Pause(1, 63), 0);
-    script[125] = Refused(Sequence(0, 1), 13);
-    script[126] = Report(0, (62, 61), (0, 62), 0xffff_ffff, (63, 1));
-    script
+    array::from_fn(|place| match place {
+        0 => Done(Pause(0, 1), 0),
+        124 => Done(Pause(1, 63), 0),
+        125 => Refused(Sequence(0, 1), 13),
+        123 | 126 => Report(0, (62, 61), (0, 62), 0xffff_ffff, (63, 1)),
+        _ if place % 2 == 1 => Done(Pause(1, place as u32 / 2 + 2), 0),
+        _ => Done(Sequence(0, 1), place / 2 + 3),
+    })
 }
 
 #[test]

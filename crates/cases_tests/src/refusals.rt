@@ -6,6 +6,7 @@ use crate::script::{Line, under_each};
 use algebra::worst::Worst;
 use shelves::opening::enough;
 use shelves::refusal::Refusal;
+use std::array;
 use std::test::*;
 
 #[test]
@@ -48,14 +49,13 @@ fn arcs(rt: HostRuntime) -> Result<(), Fail> {
     )
 }
 
-// The pause on shelf 15 is the first of 512 steps, and one more is refused.
+// A node and its clear in turn. The pause on shelf 15 is the first of 512 steps, and one more is refused.
 fn nodes() -> [Line; 1023] {
-    let mut script = [Done(Clear(0), 0); 1023];
-    for k in 0..511usize {
-        script[2 * k] = Done(Node(0, 1), 0);
-    }
-    script[1022] = Refused(Node(0, 1), 9);
-    script
+    array::from_fn(|place| match place {
+        1022 => Refused(Node(0, 1), 9),
+        _ if place % 2 == 0 => Done(Node(0, 1), 0),
+        _ => Done(Clear(0), 0),
+    })
 }
 
 #[test]
