@@ -1,5 +1,5 @@
 // A label: what one piece of code takes of a tick.
-ghost use Rattle.std.specs.Prelude.{◌≡◌, nat_le};
+ghost use Rattle.std.specs.Prelude.{◌≤◌, Decides};
 
 // The most cycles that a label may have.
 pub const MOST_CYCLES: u32 = 1_073_741_823;
@@ -14,7 +14,7 @@ pub struct Label {
 impl Label {
     // Are the cycles within the limit?
     pub fn allowed(&self) -> bool
-        ensures { result ≡ nat_le self.now.cycles 1073741823 }
+        ensures { Decides result (self.now.cycles ≤ 1073741823) }
     {
         self.cycles <= MOST_CYCLES
     }

@@ -40,56 +40,68 @@ impl<'a, V: Algebra> Rack<'a, V> {
     pub fn node(&mut self, shelf: u8, label: Label) -> Result<usize, Refusal>
         ensures { CoreAnswers V.model V.means (node_call shelf label) (answered V.model result) self.old.core self.new.core }
     {
-        change(&mut self.core, Call::node(shelf, label))
+        change(&mut self.core, Call::Node { shelf, label })
     }
 
     pub fn pause(&mut self, shelf: u8, label: Label) -> Result<usize, Refusal>
         ensures { CoreAnswers V.model V.means (pause_call shelf label) (answered V.model result) self.old.core self.new.core }
     {
-        change(&mut self.core, Call::pause(shelf, label))
+        change(&mut self.core, Call::Pause { shelf, label })
     }
 
     pub fn table(&mut self, shelf: u8, arcs: &[Arc]) -> Result<usize, Refusal>
         ensures { CoreAnswers V.model V.means (table_call shelf arcs.now) (answered V.model result) self.old.core self.new.core }
     {
-        change(&mut self.core, Call::table(shelf, arcs))
+        change(&mut self.core, Call::Table { shelf, arcs })
+    }
+
+    // Two shelves put together: the result is on the first, and the second is emptied.
+    fn pair(&mut self, kind: Pairing, first: u8, second: u8) -> Result<usize, Refusal>
+        ensures { CoreAnswers V.model V.means (pair_call kind first second) (answered V.model result) self.old.core self.new.core }
+    {
+        let call = Call::Pair {
+            kind,
+            first,
+            second,
+        };
+        change(&mut self.core, call)
     }
 
     pub fn choice(&mut self, first: u8, second: u8) -> Result<usize, Refusal>
         ensures { CoreAnswers V.model V.means (pair_call kind.Choice first second) (answered V.model result) self.old.core self.new.core }
     {
-        change(&mut self.core, Call::pair(Pairing::Choice, first, second))
+        self.pair(Pairing::Choice, first, second)
     }
 
     pub fn sequence(&mut self, first: u8, second: u8) -> Result<usize, Refusal>
         ensures { CoreAnswers V.model V.means (pair_call kind.Sequence first second) (answered V.model result) self.old.core self.new.core }
     {
-        change(&mut self.core, Call::pair(Pairing::Sequence, first, second))
+        self.pair(Pairing::Sequence, first, second)
     }
 
     pub fn fork(&mut self, first: u8, second: u8) -> Result<usize, Refusal>
         ensures { CoreAnswers V.model V.means (pair_call kind.Fork first second) (answered V.model result) self.old.core self.new.core }
     {
-        change(&mut self.core, Call::pair(Pairing::Fork, first, second))
+        self.pair(Pairing::Fork, first, second)
     }
 
     pub fn abort(&mut self, first: u8, second: u8) -> Result<usize, Refusal>
         ensures { CoreAnswers V.model V.means (pair_call kind.Abort first second) (answered V.model result) self.old.core self.new.core }
     {
-        change(&mut self.core, Call::pair(Pairing::Abort, first, second))
+        self.pair(Pairing::Abort, first, second)
     }
 
     // The call loop, whose name is a word of the language.
     pub fn repeat(&mut self, shelf: u8) -> Result<usize, Refusal>
         ensures { CoreAnswers V.model V.means (loop_call shelf) (answered V.model result) self.old.core self.new.core }
     {
-        change(&mut self.core, Call::repeat(shelf))
+        change(&mut self.core, Call::Loop { shelf })
     }
 
     pub fn clear(&mut self, shelf: u8) -> Result<usize, Refusal>
         ensures { CoreAnswers V.model V.means (clear_call shelf) (answered V.model result) self.old.core self.new.core }
     {
-        change(&mut self.core, Call::clear(shelf))
+        change(&mut self.core, Call::Clear { shelf })
     }
 
     // Report only looks.

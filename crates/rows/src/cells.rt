@@ -1,5 +1,5 @@
 // The cells that a rack is lent, and those among them that its shelves keep.
-ghost use Rattle.std.specs.Prelude.{◌≡◌, ◌+◌, ◌<◌, ◌≤◌, length, take, slice_set};
+ghost use Rattle.std.specs.Prelude.{◌≡◌, ℕ, ◌+◌, ◌<◌, ◌≤◌, length, take, drop, None as absent, slice_index_or, slice_set};
 
 use algebra::algebra::Algebra;
 
@@ -18,6 +18,14 @@ pub struct Kept<'a, V> {
 }
 
 impl<'a, V: Algebra> Cells<'a, V> {
+    // Sets the first 4,096 to absent.
+    pub fn wipe(&mut self)
+        ensures blank { (j : ℕ) → j < 4096 → slice_index_or self.new.lent.now j absent ≡ absent }
+        ensures past { drop 4096 self.new.lent.now ≡ drop 4096 self.old.lent.now }
+    {
+        self.lent[..4096].fill(None);
+    }
+
     pub fn kept<'b>(&'b self) -> Kept<'b, V>
         ensures { result.cells.now ≡ take 2048 self.now.lent.now }
     {

@@ -48,6 +48,6 @@ pub fn answer<V: Algebra>(core: &mut Core<V>, call: Call) -> Reply<V>
 pub fn look<V: Algebra>(core: &Core<V>, shelf: u8) -> Result<Report<V>, Refusal>
     ensures { CoreAnswers V.model V.means (report_call shelf) (shown V.model V.means result) core.now core.now }
 {
-    first_no(core, Call::report(shelf))?;
+    first_no(core, Call::Report { shelf })?;
     Ok(shelf_report(core, shelf))
 }

@@ -4,20 +4,12 @@ ghost use Rattle.std.specs.List.{AllByRecursion};
 ghost use Rattle.shelves.specs.Questions.{LawfulArc, UpToNamed, Begins};
 
 use algebra::arc::{Arc, OUT};
-use algebra::label::Label;
 
-// Are the label's cycles within the limit?
-pub fn mild(label: Label) -> bool
-    ensures { Decides result (label.cycles ≤ 1073741823) }
-{
-    label.allowed()
-}
-
-// Are those of every arc?
+// Are the cycles of every arc within the limit?
 pub fn light(arcs: &[Arc]) -> bool
     ensures { Decides result (AllByRecursion (λ l. l.cycles ≤ 1073741823) (map (λ a. a.label) arcs.now)) }
 {
-    arcs.iter().all(|arc| mild(arc.label))
+    arcs.iter().all(|arc| arc.label.allowed())
 }
 
 // Does the arc lead from a state to a state or out?

@@ -14,15 +14,6 @@ pub fn enough<V: Algebra>(cells: &[Option<V>]) -> bool
     cells.len() >= 4096
 }
 
-// Sets the first 4,096 cells to absent.
-fn wipe<V: Algebra>(cells: &mut [Option<V>])
-    requires { 4096 ≤ length cells.old }
-    ensures blank { (j : ℕ) → j < 4096 → slice_index_or cells.new j absent ≡ absent }
-    ensures past { drop 4096 cells.new ≡ drop 4096 cells.old }
-{
-    cells[..4096].fill(None);
-}
-
 // Opens over lent cells: those past the first 4,096 are untouched. The history begins.
 pub fn open<'a, V: Algebra>(cells: &'a mut [Option<V>]) -> Core<'a, V>
     requires { 4096 ≤ length cells.old }
@@ -31,9 +22,10 @@ pub fn open<'a, V: Algebra>(cells: &'a mut [Option<V>]) -> Core<'a, V>
     ensures fresh { CoreFresh V.model V.means result }
     ensures promise { CoreOpens V.model V.means result }
 {
-    wipe(cells);
+    let mut cells = Cells { lent: cells };
+    cells.wipe();
     Core {
-        cells: Cells { lent: cells },
+        cells,
         shelves: Shelves::new(),
         steps: Steps::new(),
         arcs: Arcs::new(),

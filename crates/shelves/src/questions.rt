@@ -7,7 +7,7 @@ ghost use Rattle.shelves.specs.Questions.{Distinct, LawfulArc, UpToNamed, Begins
 ghost use Rattle.shelves.specs.State.{empty_shelf};
 ghost use Rattle.shelves.specs.Tables.{shelves_of};
 
-use crate::arcs::{complete, lawful, light, mild};
+use crate::arcs::{complete, lawful, light};
 use crate::call::Call;
 use crate::tables::{Arcs, Shelves, Steps};
 
@@ -83,7 +83,7 @@ pub fn measured(call: Call) -> bool
     ensures { Decides result (AllByRecursion (λ l. l.cycles ≤ 1073741823) (about (call_of call.entry)).labels) }
 {
     match call {
-        Call::Node { label, .. } | Call::Pause { label, .. } => mild(label),
+        Call::Node { label, .. } | Call::Pause { label, .. } => label.allowed(),
         Call::Table { arcs, .. } => light(arcs),
         _ => true,
     }

@@ -57,26 +57,30 @@ impl<'a, V: Algebra> TicketRack<'a, V> {
     pub fn node(&mut self, shelf: u8, label: Label) -> Result<Built, Refusal>
         ensures { LeafGives V.model V.means (node_call shelf label) shelf result self.old.core self.new.core }
     {
-        self.leaf(Call::node(shelf, label), shelf)
+        self.leaf(Call::Node { shelf, label }, shelf)
     }
 
     pub fn pause(&mut self, shelf: u8, label: Label) -> Result<Built, Refusal>
         ensures { LeafGives V.model V.means (pause_call shelf label) shelf result self.old.core self.new.core }
     {
-        self.leaf(Call::pause(shelf, label), shelf)
+        self.leaf(Call::Pause { shelf, label }, shelf)
     }
 
     pub fn table(&mut self, shelf: u8, arcs: &[Arc]) -> Result<Built, Refusal>
         ensures { LeafGives V.model V.means (table_call shelf arcs.now) shelf result self.old.core self.new.core }
     {
-        self.leaf(Call::table(shelf, arcs), shelf)
+        self.leaf(Call::Table { shelf, arcs }, shelf)
     }
 
     // Spends the second ticket; the first is then the result's. Refused, it hands both back.
     fn pair(&mut self, kind: Pairing, first: Ticket, second: Ticket) -> Result<Built, BothBack>
         ensures { PairGives V.model V.means kind first second result self.old.core self.new.core }
     {
-        let call = Call::pair(kind, first.shelf, second.shelf);
+        let call = Call::Pair {
+            kind,
+            first: first.shelf,
+            second: second.shelf,
+        };
         match change(&mut self.core, call) {
             Ok(number) => {
                 let Ticket { shelf: _ } = second;
@@ -119,7 +123,8 @@ impl<'a, V: Algebra> TicketRack<'a, V> {
         ensures ticket { MatchResult result (λ built. built.ticket ≡ ticket) (λ back. back.ticket ≡ ticket) }
         ensures names { IfOk result (λ built. NamesIn V.model V.means self.new.core built.ticket) }
     {
-        match change(&mut self.core, Call::repeat(ticket.shelf)) {
+        let shelf = ticket.shelf;
+        match change(&mut self.core, Call::Loop { shelf }) {
             Ok(number) => Ok(Built { ticket, number }),
             Err(why) => Err(Back { ticket, why }),
         }
@@ -131,7 +136,8 @@ impl<'a, V: Algebra> TicketRack<'a, V> {
         ensures ticket { IfErr result (λ back. back.ticket ≡ ticket) }
         ensures cleared { NamesIn V.model V.means self.old.core ticket → OnErr result (⊥) }
     {
-        match change(&mut self.core, Call::clear(ticket.shelf)) {
+        let shelf = ticket.shelf;
+        match change(&mut self.core, Call::Clear { shelf }) {
             Ok(number) => {
                 let Ticket { shelf: _ } = ticket;
                 Ok(number)

@@ -1,4 +1,4 @@
-use Rattle.std.proofs.Common.{[], ◌∷◌, refl, subst}
+use Rattle.std.proofs.Common.{[], ◌∷◌, refl}
 use Rattle.std.proofs.lemmas.Result.{err_from_is_err_and}
 use Rattle.shelves.specs.declared.refusal.Refusal.TheVariants.{NeverRepeats, TooLong}
 use Rattle.shelves.specs.Calls.{report}
@@ -16,8 +16,7 @@ returns-in_err-first_no g c =
     let s = state_of m g.V.Algebra.means c.args.core.now in
     let p = err_from_is_err_and c.from_residual.result c.from_residual.ensures.1 in
     let no = c.in_err-first_no.field-0.0 in
-    let asked = subst (λ call. FirstNo (Yes m s call) early no) c.report.ensures c.in_err-first_no.ensures in
-    let first : FirstNo (Yes m s (report c.args.shelf)) order no = no_before (Yes m s (report c.args.shelf)) early (NeverRepeats ∷ TooLong ∷ []) no asked in
+    let first : FirstNo (Yes m s (report c.args.shelf)) order no = no_before (Yes m s (report c.args.shelf)) early (NeverRepeats ∷ TooLong ∷ []) no c.in_err-first_no.ensures in
     rw (p.1, p.2) (answers m (laws_of g.world g.met.V.Algebra) g.met.V.Algebra.chosen (first, refl))
 
 pub returns : goal.returns

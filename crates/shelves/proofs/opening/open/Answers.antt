@@ -8,7 +8,7 @@ pub returns : goal.returns
 returns g c =
     let m = g.V.Algebra.model in
     let fresh : Fresh m _ = record {
-      cells = blank_mean g.V.Algebra.means c.wipe.new.cells c.wipe.ensures.blank;
+      cells = blank_mean g.V.Algebra.means c.wipe.new.self.lent.now c.wipe.ensures.blank;
       shelves = c.new.ensures;
       steps = c.new-2.ensures;
       arcs = c.new-3.ensures;
