@@ -38,12 +38,9 @@ fn first_tick<V: Algebra>(piece: &Piece, kept: &Kept<V>, figure: Option<V>) -> u
     requires whole { let given = rows_of V.model (meanings V.means kept.now.cells.now) piece.now in option_map V.means figure ≡ figure_of V.model (pause_at given) (exit_at given) (size given) }
     ensures { FirstTick V.model true (option_map V.means figure) (rows_of V.model (meanings V.means kept.now.cells.now) piece.now) (present result) }
 {
-    for tick in 0..piece.shape.size() {
-        if equal(both(piece, kept, tick), figure) {
-            return tick;
-        }
-    }
-    unreachable()
+    (0..piece.shape.size())
+        .find(|tick| equal(both(piece, kept, *tick), figure))
+        .unwrap()
 }
 
 // The report of a piece on the shelves.

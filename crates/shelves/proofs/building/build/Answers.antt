@@ -2,10 +2,9 @@ use Rattle.std.proofs.Common.{List, get_or, take, None, sym, refl, ap, ◌∙◌
 use Rattle.std.proofs.lemmas.Result.{err_from_is_err_and}
 use Rattle.std.proofs.lemmas.List.{append-nil}
 use Rattle.algebra.specs.Coefficients.{Coef}
-use Rattle.rows.specs.Outcomes.{Refused}
 use Rattle.rows.specs.Pieces.{meanings}
 use Rattle.rows.specs.Rules.Rule.{rows}
-use Rattle.rows.specs.Unrolled.{Keeps, Unrolls}
+use Rattle.rows.specs.Unrolled.{Keeps}
 use Rattle.shelves.specs.Effects.{OfShelf}
 use Rattle.shelves.specs.Tables.{shelves_of}
 use Rattle.shelves.proofs.LeafRows.{apart}

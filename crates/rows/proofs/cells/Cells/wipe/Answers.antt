@@ -1,4 +1,4 @@
-use Rattle.std.proofs.Common.{ℕ, get_or, drop, length, None, ap, ◌∙◌, arith, rules}
+use Rattle.std.proofs.Common.{get_or, None, ap, ◌∙◌, arith, rules}
 use Rattle.std.proofs.lemmas.List.{get_or_append_left, get_or-replicate, length-take}
 use Rattle.std.proofs.lemmas.Slice.{drop-append-drop}
 use Rattle.rows.proofs.cells.Cells.wipe.Goals as goal
