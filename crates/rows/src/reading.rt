@@ -35,13 +35,14 @@ impl Piece {
     pub fn moved<V: Algebra>(&self, kept: &Kept<V>, set: u64) -> u64
         ensures { result ≡ phases_after (rows_of V.model (meanings V.means kept.now.cells.now) self.now) set }
     {
-        let mut after = 0;
-        // a for, not a fold: in closures `at` and `after` would ask for the bound of k again
-        for k in 0..self.shape.size() {
-            if has(set, k) && self.at(Row::Pause, kept, k).is_some() {
-                after = with(after, self.shape.after(k));
-            }
-        }
-        after
+        (0..self.shape.size())
+            .filter(
+                |k|
+                    requires { k.now < self.now.shape.transient + self.now.shape.period }
+                {
+                    has(set, *k) && self.at(Row::Pause, kept, *k).is_some()
+                }
+            )
+            .fold(0, |after, k| with(after, self.shape.after(k)))
     }
 }

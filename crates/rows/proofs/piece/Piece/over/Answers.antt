@@ -1,4 +1,4 @@
-use Rattle.std.proofs.Common.{refl, ap, ◌∙◌, add-one, arith, rules}
+use Rattle.std.proofs.Common.{refl, ap, ◌∙◌, arith, rules}
 use borrow.Author.Tests.{tests}
 use Rattle.std.specs.Option.{option_map}
 use Rattle.std.proofs.lemmas.Iterator.{YieldsList-from_range}
@@ -18,5 +18,5 @@ returns g c =
     fold_read _ (option_map f) (λ a k. join m a (r k)) _ _ c.fold.ensures.ran
     (YieldsList-from_filter _ (has c.args.set) (YieldsList-from_range 0 n n c.filter.ensures.source (omega arith)) c.filter.ensures.closure (λ x b q k. search (rules, tests)))
     (λ a x b q k. search rules)
-    ∙ fold_passing (has c.args.set) (λ a k. join m a (r k)) (joins m (has c.args.set) r) (λ k. ap (joins m (has c.args.set) r) (add-one k)) n
+    ∙ fold_passing (has c.args.set) (λ a k. join m a (r k)) (joins m (has c.args.set) r) (λ k. refl) n
     ∙ ap (joins m (has c.args.set) r) c.size.ensures
