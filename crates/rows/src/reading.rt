@@ -26,27 +26,23 @@ impl Piece {
     pub fn over<V: Algebra>(&self, row: Row, kept: &Kept<V>, set: u64) -> Option<V>
         ensures { option_map V.means result ≡ joins V.model (has_member set) (row_of (rows_of V.model (meanings V.means kept.now.cells.now) self.now) row) (size (rows_of V.model (meanings V.means kept.now.cells.now) self.now)) }
     {
-        let mut all = None;
-        // a for, not a fold: in closures `at` would ask for the bound of k again
-        for k in 0..self.shape.size() {
-            if has(set, k) {
-                all = join(all, self.at(row, kept, k));
-            }
-        }
-        all
+        (0..self.shape.size())
+            .filter(|k| has(set, *k))
+            .fold(None, |all, k| join(all, self.at(row, kept, k)))
     }
 
     // The phase after each member of a set at which pause is present.
     pub fn moved<V: Algebra>(&self, kept: &Kept<V>, set: u64) -> u64
         ensures { result ≡ phases_after (rows_of V.model (meanings V.means kept.now.cells.now) self.now) set }
     {
-        let mut after = 0;
-        // a for, not a fold: in closures `at` and `after` would ask for the bound of k again
-        for k in 0..self.shape.size() {
-            if has(set, k) && self.at(Row::Pause, kept, k).is_some() {
-                after = with(after, self.shape.after(k));
-            }
-        }
-        after
+        (0..self.shape.size())
+            .filter(
+                |k|
+                    requires { k.now < self.now.shape.transient + self.now.shape.period }
+                {
+                    has(set, *k) && self.at(Row::Pause, kept, *k).is_some()
+                }
+            )
+            .fold(0, |after, k| with(after, self.shape.after(k)))
     }
 }

@@ -25,11 +25,9 @@ fn both<V: Algebra>(piece: &Piece, kept: &Kept<V>, k: usize) -> Option<V>
 fn figure<V: Algebra>(piece: &Piece, kept: &Kept<V>) -> Option<V>
     ensures { let given = rows_of V.model (meanings V.means kept.now.cells.now) piece.now in option_map V.means result ≡ figure_of V.model (pause_at given) (exit_at given) (size given) }
 {
-    let mut all = None;
-    for k in 0..piece.shape.size() {
-        all = join(all, both(piece, kept, k));
-    }
-    all
+    (0..piece.shape.size())
+        .map(|k| both(piece, kept, k))
+        .fold(None, join)
 }
 
 // The first tick at which both rows joined are the figure: where the algebra chooses, some phase has it.
