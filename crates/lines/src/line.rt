@@ -8,7 +8,7 @@ use shown::Shown;
 use std::alloc::{AllocError, Global};
 use std::fmt;
 
-// A figure, which a program that is analysed has.
+// A figure, or none where it is absent.
 #[derive(Clone, Copy)]
 struct Figure<V>(Option<V>);
 

@@ -1,5 +1,5 @@
 // Writes one record.
-ghost use Rattle.std.specs.Prelude.{◌≡◌, ◌<◌, [], ◌∷◌, ◌++◌, length, MatchResult, OnOk, All};
+ghost use Rattle.std.specs.Prelude.{◌≡◌, ◌<◌, ◌∷◌, ◌++◌, length, MatchResult, OnOk, All};
 ghost use Rattle.std.specs.List.{flat_map};
 ghost use Rattle.program.specs.Entries.{entry};
 ghost use Rattle.program.specs.Format.{two, label_bytes, arc_bytes, FitsLabel, FitsArc, FitsBody, Fits, Resists, long, body as body_of, bytes};

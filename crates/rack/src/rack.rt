@@ -1,5 +1,5 @@
 // A rack whose calls name shelves by number.
-ghost use Rattle.std.specs.Prelude.{◌≡◌, ℕ, ◌<◌, ◌≤◌, min, [], map, length, take, drop, None as absent, slice_index_or};
+ghost use Rattle.std.specs.Prelude.{◌≡◌, ℕ, ◌<◌, ◌≤◌, min, length, take, drop, None as absent, slice_index_or};
 ghost use Rattle.shelves.specs.declared.call.Pairing.TheVariants as kind;
 ghost use Rattle.shelves.specs.Calls.{node as node_call, pause as pause_call, table as table_call, pair as pair_call, loop as loop_call, clear as clear_call, report as report_call};
 ghost use Rattle.shelves.specs.Told.{shown};

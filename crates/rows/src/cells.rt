@@ -10,7 +10,14 @@ pub struct Cells<'a, V> {
     ghost room: { 4096 ≤ length lent.now },
 }
 
-// What the 16 shelves keep, to read: the first 2,048 cells.
+// All of them, to read.
+#[derive(Drop)]
+pub struct Room<'a, V> {
+    pub cells: &'a [Option<V>],
+    ghost long: { 4096 ≤ length cells.now },
+}
+
+// What the 16 shelves keep, to read: at least the first 2,048 cells.
 #[derive(Drop)]
 pub struct Kept<'a, V> {
     pub cells: &'a [Option<V>],
@@ -24,6 +31,12 @@ impl<'a, V: Algebra> Cells<'a, V> {
         ensures past { drop 4096 self.new.lent.now ≡ drop 4096 self.old.lent.now }
     {
         self.lent[..4096].fill(None);
+    }
+
+    pub fn room<'b>(&'b self) -> Room<'b, V>
+        ensures { result.cells.now ≡ self.now.lent.now }
+    {
+        Room { cells: &*self.lent }
     }
 
     pub fn kept<'b>(&'b self) -> Kept<'b, V>

@@ -3,25 +3,25 @@ ghost use Rattle.std.specs.Prelude.{◌≡◌, ◌+◌, ◌-◌, ◌<◌, ◌≤
 ghost use Rattle.rows.specs.Pieces.{meanings};
 ghost use Rattle.rows.specs.Search.{noted, folded, RoundHas, LeastPeriod, LeastTransient};
 
-use crate::cells::Cells;
+use crate::cells::Room;
 use algebra::algebra::Algebra;
 use algebra::coefficient::equal;
 
-impl<'a, V: Algebra> Cells<'a, V> {
+impl<'a, V: Algebra> Room<'a, V> {
     // Are pause and exit the same at the two ticks?
     fn same(&self, j: usize, k: usize) -> bool
         requires { (j < 1024) × (k < 1024) }
-        ensures { Decides result (noted V.model (meanings V.means self.now.lent.now) j ≡ noted V.model (meanings V.means self.now.lent.now) k) }
+        ensures { Decides result (noted V.model (meanings V.means self.now.cells.now) j ≡ noted V.model (meanings V.means self.now.cells.now) k) }
     {
-        let pauses = equal(self.lent[2048 + j], self.lent[2048 + k]);
-        let exits = equal(self.lent[3072 + j], self.lent[3072 + k]);
+        let pauses = equal(self.cells[2048 + j], self.cells[2048 + k]);
+        let exits = equal(self.cells[3072 + j], self.cells[3072 + k]);
         pauses & exits
     }
 
     // Is tick k the same as the one d later, taken back into the round from i up to n?
     fn comes_back(&self, i: usize, n: usize, d: usize, k: usize) -> bool
         requires { (i ≤ k) × ((k < n) × ((n < 1024) × (d ≤ n - i))) }
-        ensures { Decides result (noted V.model (meanings V.means self.now.lent.now) (folded i n (k + d)) ≡ noted V.model (meanings V.means self.now.lent.now) k) }
+        ensures { Decides result (noted V.model (meanings V.means self.now.cells.now) (folded i n (k + d)) ≡ noted V.model (meanings V.means self.now.cells.now) k) }
     {
         let later = k + d;
         let back = if later < n { later } else { later - (n - i) };
@@ -31,7 +31,7 @@ impl<'a, V: Algebra> Cells<'a, V> {
     // Does the round from i up to n have the period d?
     fn round_has(&self, i: usize, n: usize, d: usize) -> bool
         requires { (i < n) × ((n < 1024) × (d ≤ n - i)) }
-        ensures { Decides result (RoundHas (noted V.model (meanings V.means self.now.lent.now)) i n d) }
+        ensures { Decides result (RoundHas (noted V.model (meanings V.means self.now.cells.now)) i n d) }
     {
         (i..n).all(|k| self.comes_back(i, n, d, k))
     }
@@ -39,7 +39,7 @@ impl<'a, V: Algebra> Cells<'a, V> {
     // The least period of the round from i up to n.
     pub fn least_period(&self, i: usize, n: usize) -> usize
         requires { (i < n) × (n < 1024) }
-        ensures { LeastPeriod (noted V.model (meanings V.means self.now.lent.now)) i n result }
+        ensures { LeastPeriod (noted V.model (meanings V.means self.now.cells.now)) i n result }
     {
         (1..n - i)
             .find(|d| self.round_has(i, n, *d))
@@ -49,7 +49,7 @@ impl<'a, V: Algebra> Cells<'a, V> {
     // The least tick from which the rows have the period d up to i.
     pub fn least_transient(&self, i: usize, d: usize) -> usize
         requires { i + d < 1024 }
-        ensures { LeastTransient (noted V.model (meanings V.means self.now.lent.now)) i d result }
+        ensures { LeastTransient (noted V.model (meanings V.means self.now.cells.now)) i d result }
     {
         (0..i)
             .rev()

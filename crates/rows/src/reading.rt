@@ -39,9 +39,7 @@ impl Piece {
             .filter(
                 |k|
                     requires { k.now < self.now.shape.transient + self.now.shape.period }
-                {
-                    has(set, *k) && self.at(Row::Pause, kept, *k).is_some()
-                }
+                { has(set, *k) && self.at(Row::Pause, kept, *k).is_some() },
             )
             .fold(0, |after, k| with(after, self.shape.after(k)))
     }

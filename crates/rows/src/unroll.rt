@@ -25,8 +25,9 @@ pub fn unroll<R: RowRule, V: Algebra>(
     let Some(Turn { number, earlier }) = walk(rule, cells) else {
         return Err(Unkept::NeverSoon);
     };
-    let period = cells.least_period(earlier, number);
-    let transient = cells.least_transient(earlier, period);
+    let noted = cells.room();
+    let period = noted.least_period(earlier, number);
+    let transient = noted.least_transient(earlier, period);
     if transient + period > 64 {
         return Err(Unkept::TooLong);
     }

@@ -1,5 +1,5 @@
 // The walk of a rule: situations from the first on, noted with their rows until one equals an earlier one.
-ghost use Rattle.std.specs.Prelude.{◌≡◌, ℕ, ◌+◌, ◌-◌, ◌<◌, take, drop, MatchOption};
+ghost use Rattle.std.specs.Prelude.{◌≡◌, ℕ, ◌-◌, ◌<◌, take, drop, MatchOption};
 ghost use Rattle.rows.specs.Pieces.{meanings};
 ghost use Rattle.rows.specs.Repeats.{Repeats, NoRepeat};
 ghost use Rattle.rows.specs.Rules.Rule.{Rule, at, rows};
@@ -7,7 +7,6 @@ ghost use Rattle.rows.specs.Search.{noted};
 
 use crate::cells::Cells;
 use crate::rule::{RowRule, Tick};
-use crate::situation::Situation;
 use crate::situations::Situations;
 use algebra::algebra::Algebra;
 

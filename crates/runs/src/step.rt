@@ -1,4 +1,7 @@
 // A step: what one call of a program adds, recorded over the steps and arcs before it.
+ghost use Rattle.std.specs.Prelude.{◌≡◌};
+ghost use Rattle.runs.specs.declared.step.Step.TheVariants.{Repeat};
+
 use algebra::label::Label;
 
 #[derive(Clone, Copy, PartialEq, Eq, Debug)]
@@ -18,6 +21,8 @@ pub enum Step {
 
 // What fills the places of a table where no step is recorded.
 impl Default for Step {
+    ghost is_default = { λ step. step ≡ Repeat 0 };
+
     fn default() -> Step {
         Step::Repeat { of: 0 }
     }

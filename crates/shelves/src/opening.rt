@@ -1,5 +1,5 @@
 // Opening: what a rack of either kind holds at first.
-ghost use Rattle.std.specs.Prelude.{◌≡◌, ℕ, ◌<◌, ◌≤◌, [], length, drop, None as absent, Decides, slice_index_or};
+ghost use Rattle.std.specs.Prelude.{◌≡◌, ℕ, ◌<◌, ◌≤◌, length, drop, None as absent, Decides, slice_index_or};
 ghost use Rattle.shelves.specs.Cores.{CoreFresh, CoreOpens};
 
 use crate::core_state::Core;

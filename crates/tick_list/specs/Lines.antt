@@ -1,4 +1,4 @@
--- The plain words of records, arcs and sums.
+-- The plain words of records and arcs.
 use Rattle.std.specs.Prelude.{ℕ, if◌then◌else◌, List, ◌++◌, length, codes, decimal, ◌==◌}
 use Rattle.algebra.specs.declared.arc.Arc.{Arc}
 use Rattle.algebra.specs.declared.label.Label.{Label}

@@ -1,11 +1,11 @@
 // A rack whose calls take tickets. At another rack a ticket is only a number, so every question is asked all the same.
-ghost use Rattle.std.specs.Prelude.{◌≡◌, ℕ, ◌<◌, ◌≤◌, min, [], ◌∷◌, map, length, take, drop, IfOk, IfErr, None as absent, MatchResult, OnErr, slice_index_or};
+ghost use Rattle.std.specs.Prelude.{◌≡◌, ℕ, ◌<◌, ◌≤◌, min, [], ◌∷◌, length, take, drop, IfOk, IfErr, None as absent, MatchResult, OnErr, slice_index_or};
 ghost use Rattle.shelves.specs.declared.call.Pairing.TheVariants as kind;
-ghost use Rattle.shelves.specs.Calls.{node as node_call, pause as pause_call, table as table_call, pair as pair_call, loop as loop_call, clear as clear_call, report as report_call};
+ghost use Rattle.shelves.specs.Calls.{node as node_call, pause as pause_call, table as table_call, loop as loop_call, clear as clear_call, report as report_call};
 ghost use Rattle.shelves.specs.Changing.{Changing};
 ghost use Rattle.shelves.specs.Cores.{CoreFresh, CoreOpens, CoreAnswers, CoreAnswersAll};
 ghost use Rattle.shelves.specs.Filling.{filled_by};
-ghost use Rattle.shelves.specs.Held.{state_of, call_of};
+ghost use Rattle.shelves.specs.Held.{call_of};
 ghost use Rattle.shelves.specs.Told.{shown};
 ghost use Rattle.tickets.specs.Tickets.{loop_reply, clear_reply, NamesIn, LeafGives, PairGives};
 

@@ -1,4 +1,4 @@
-use Rattle.std.proofs.Common.{◌+◌, ◌≤◌, take, ◌∙◌, inr, arith}
+use Rattle.std.proofs.Common.{◌+◌, ◌≤◌, take, ap, ◌∙◌, inr, arith}
 use Rattle.rows.specs.Pieces.{meanings}
 use Rattle.rows.specs.Rules.Rule.{rows}
 use Rattle.rows.specs.Search.{noted}
@@ -33,7 +33,8 @@ returns-then-transient-period-gt64 g c =
           period = c.least_period-period.result;
           soon = turn.0;
           first = record { earlier = (earlier, turn.1, turn.2); fresh = turn.3 };
-          least = shape_of {m = m} rule (noted m (meanings f c.walk.new.cells.lent.now)) earlier number _ _ turn.1 turn.2 turn.4 c.least_period-period.ensures c.least_transient-transient.ensures;
+          least = shape_of {m = m} rule (noted m (meanings f c.room-noted.result.cells.now)) earlier number _ _ turn.1 turn.2
+              (λ k less. ap (λ xs. noted m (meanings f xs) k) c.room-noted.ensures ∙ turn.4 k less) c.least_period-period.ensures c.least_transient-transient.ensures;
           long = c.if-transient-period-gt64.true;
         },
         kept,
@@ -55,7 +56,8 @@ returns g c =
     let t = c.least_transient-transient.result in
     let d = c.least_period-period.result in
     let filled = c.fill.ensures in
-    let least = shape_of {m = m} rule (noted m (meanings f before)) earlier number d t turn.1 turn.2 turn.4 c.least_period-period.ensures c.least_transient-transient.ensures in
+    let least = shape_of {m = m} rule (noted m (meanings f c.room-noted.result.cells.now)) earlier number d t turn.1 turn.2
+    (λ k less. ap (λ xs. noted m (meanings f xs) k) c.room-noted.ensures ∙ turn.4 k less) c.least_period-period.ensures c.least_transient-transient.ensures in
     let few : t + d ≤ number = omega (arith, turn.1) in
     record {
       past = same_past after before 4096 filled.len (λ j far. filled.others j (inr (omega arith))) ∙ c.walk.ensures.past;

@@ -4,11 +4,11 @@ use Rattle.std.proofs.lemmas.Iterator.{first_from_Range}
 use Rattle.rows.specs.Pieces.{meanings}
 use Rattle.rows.specs.Search.{noted, LeastPeriod}
 use Rattle.rows.proofs.Shapes.{Period, least_period_from}
-use Rattle.rows.proofs.cells.Cells.least_period.Goals as goal
+use Rattle.rows.proofs.cells.Room.least_period.Goals as goal
 
 pub returns : goal.returns
 returns g c =
-    let row = noted g.V.Algebra.model (meanings g.V.Algebra.means c.args.self.now.lent.now) in
+    let row = noted g.V.Algebra.model (meanings g.V.Algebra.means c.args.self.now.cells.now) in
     let i = c.args.i in
     let n = c.args.n in
     let Has = Period row i n in

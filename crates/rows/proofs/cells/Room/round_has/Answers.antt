@@ -4,11 +4,11 @@ use Rattle.std.proofs.lemmas.Iterator.{cases_from_all, YieldsList-from_range}
 use Rattle.rows.specs.Pieces.{meanings}
 use Rattle.rows.specs.Search.{noted}
 use Rattle.rows.proofs.Shapes.{Back, back_decides}
-use Rattle.rows.proofs.cells.Cells.round_has.Goals as goal
+use Rattle.rows.proofs.cells.Room.round_has.Goals as goal
 
 pub returns : goal.returns
 returns g c =
-    let row = noted g.V.Algebra.model (meanings g.V.Algebra.means c.args.self.now.lent.now) in
+    let row = noted g.V.Algebra.model (meanings g.V.Algebra.means c.args.self.now.cells.now) in
     let i = c.args.i in
     let n = c.args.n in
     let Same = Back row i n c.args.d in

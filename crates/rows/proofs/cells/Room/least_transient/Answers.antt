@@ -5,11 +5,11 @@ use Rattle.rows.specs.Pieces.{meanings}
 use Rattle.rows.specs.Search.{noted}
 use Rattle.rows.proofs.Backwards.{down_from, last_passing}
 use Rattle.rows.proofs.Shapes.{Same, least_transient_from}
-use Rattle.rows.proofs.cells.Cells.least_transient.Goals as goal
+use Rattle.rows.proofs.cells.Room.least_transient.Goals as goal
 
 pub returns : goal.returns
 returns g c =
-    let row = noted g.V.Algebra.model (meanings g.V.Algebra.means c.args.self.now.lent.now) in
+    let row = noted g.V.Algebra.model (meanings g.V.Algebra.means c.args.self.now.cells.now) in
     let i = c.args.i in
     let d = c.args.d in
     let found = c.find.ensures.runs in
