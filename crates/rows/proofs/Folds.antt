@@ -1,11 +1,10 @@
 -- What a fold over the numbers below a bound gives.
-use Rattle.std.proofs.Common.{◌≡◌, ℕ, zero, suc, ◌+◌, Bool, true, false, cond, List, [], ◌∷◌, ◌++◌, map, Option, sym, refl, ap, ◌∙◌, add-one, arith}
+use Rattle.std.proofs.Common.{◌≡◌, ℕ, zero, suc, ◌+◌, Bool, true, false, cond, List, [], ◌∷◌, Option, sym, refl, ap, ◌∙◌, add-one, arith}
 use Rattle.std.specs.Fn.{Called}
 use Rattle.std.specs.Iterator.{Drains}
 use Rattle.std.specs.List.{FoldsTo, fold, filter, range_with_len}
 use Rattle.std.proofs.lemmas.Fn.{fold_over}
 use Rattle.std.proofs.lemmas.Iterator.{YieldsList}
-use Rattle.std.proofs.lemmas.List.Folds.{fold-map}
 use Rattle.std.proofs.lemmas.List.Sums.{fold-append}
 use denote.Param.Members.{Mut}
 
@@ -27,18 +26,16 @@ fold-filter step test (x ∷ xs) b = first (test x) ∙ fold-filter step test xs
     first true = refl
     first false = refl
 
--- a fold over n numbers from k on
-fold-range : {B : Type 0} (step : B → ℕ → B) (all : ℕ → B) → ((k : ℕ) → all (suc k) ≡ step (all k) k) → (n k : ℕ) → fold step (all k) (range_with_len k n) ≡ all (k + n)
-fold-range step all more zero k = ap all {x = k} (omega arith)
-fold-range step all more (suc n) k =
-    ap (λ b. fold step b (range_with_len (k + 1) n)) (sym (ap all (add-one k) ∙ more k)) ∙ fold-range step all more n (k + 1) ∙ ap all {x = k + 1 + n} (omega arith)
+-- a fold over n numbers, from k on and from 0 on
+module _ {B : Type 0} (step : B → ℕ → B) (all : ℕ → B) (more : (k : ℕ) → all (suc k) ≡ step (all k) k) where
+  fold-range_from : (n k : ℕ) → fold step (all k) (range_with_len k n) ≡ all (k + n)
+  fold-range_from zero k = ap all {x = k} (omega arith)
+  fold-range_from (suc n) k =
+      ap (λ b. fold step b (range_with_len (k + 1) n)) (sym (ap all (add-one k) ∙ more k)) ∙ fold-range_from n (k + 1) ∙ ap all {x = k + 1 + n} (omega arith)
 
--- a fold over what f gives of each number below n
-pub fold_below : {A B : Type 0} (step : B → A → B) (f : ℕ → A) (all : ℕ → B) → ((k : ℕ) → all (suc k) ≡ step (all k) (f k)) → (n : ℕ) → fold step (all 0) (map f (range_with_len 0 n)) ≡ all n
-fold_below step f all more n =
-    fold-map step f (all 0) (range_with_len 0 n) ∙ fold-range (λ b k. step b (f k)) all more n 0 ∙ ap all {x = 0 + n} (omega arith)
+  pub fold-range : (n : ℕ) → fold step (all 0) (range_with_len 0 n) ≡ all n
+  fold-range n = fold-range_from n 0 ∙ ap all {x = 0 + n} (omega arith)
 
 -- a fold over the numbers below n that pass a test
 pub fold_passing : {B : Type 0} (test : ℕ → Bool) (step : B → ℕ → B) (all : ℕ → B) → ((k : ℕ) → all (suc k) ≡ cond (test k) (step (all k) k) (all k)) → (n : ℕ) → fold step (all 0) (filter test (range_with_len 0 n)) ≡ all n
-fold_passing test step all more n =
-    fold-filter step test (range_with_len 0 n) (all 0) ∙ fold-range (λ b k. cond (test k) (step b k) b) all more n 0 ∙ ap all {x = 0 + n} (omega arith)
+fold_passing test step all more n = fold-filter step test (range_with_len 0 n) (all 0) ∙ fold-range (λ b k. cond (test k) (step b k) b) all more n

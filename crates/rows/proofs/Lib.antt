@@ -1,7 +1,6 @@
 pub mod PhaseLaws
 pub mod Meanings
 pub mod Folds
-pub mod Walks
 pub mod SetLaws
 pub mod TableLaws
 pub mod Periods

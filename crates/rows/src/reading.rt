@@ -27,7 +27,7 @@ impl Piece {
         ensures { option_map V.means result ≡ joins V.model (has_member set) (row_of (rows_of V.model (meanings V.means kept.now.cells.now) self.now) row) (size (rows_of V.model (meanings V.means kept.now.cells.now) self.now)) }
     {
         (0..self.shape.size())
-            .filter(|k| has(set, *k))
+            .filter(|&k| has(set, k))
             .fold(None, |all, k| join(all, self.at(row, kept, k)))
     }
 
@@ -37,9 +37,15 @@ impl Piece {
     {
         (0..self.shape.size())
             .filter(
+<<<<<<< ours
                 |k|
                     requires { k.now < self.now.shape.transient + self.now.shape.period }
                 { has(set, *k) && self.at(Row::Pause, kept, *k).is_some() },
+=======
+                |&k|
+                    requires { k < self.now.shape.transient + self.now.shape.period }
+                { has(set, k) && self.at(Row::Pause, kept, k).is_some() },
+>>>>>>> theirs
             )
             .fold(0, |after, k| with(after, self.shape.after(k)))
     }

@@ -1,10 +1,9 @@
-use Rattle.std.proofs.Common.{◌≡◌, ℕ, ◌&&◌, is_some, refl, ap, ◌∙◌, arith, rules}
+use Rattle.std.proofs.Common.{ℕ, ◌&&◌, is_some, refl, ap, ◌∙◌, arith, rules}
 use borrow.Author.Tests.{tests}
 use Rattle.std.proofs.lemmas.Iterator.{YieldsList-from_range}
 use Rattle.std.proofs.lemmas.Iterator.Consumers.{YieldsList-from_filter}
 use Rattle.rows.specs.Pieces.{rows_of, meanings, next_phase}
 use Rattle.rows.specs.Sets.{has, image, with_member}
-use Rattle.rows.proofs.Meanings.{present_means}
 use Rattle.rows.proofs.Folds.{fold_read, fold_passing}
 use Rattle.rows.proofs.piece.Piece.moved.Goals as goal
 
