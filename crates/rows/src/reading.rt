@@ -37,15 +37,9 @@ impl Piece {
     {
         (0..self.shape.size())
             .filter(
-<<<<<<< ours
-                |k|
-                    requires { k.now < self.now.shape.transient + self.now.shape.period }
-                { has(set, *k) && self.at(Row::Pause, kept, *k).is_some() },
-=======
                 |&k|
                     requires { k < self.now.shape.transient + self.now.shape.period }
                 { has(set, k) && self.at(Row::Pause, kept, k).is_some() },
->>>>>>> theirs
             )
             .fold(0, |after, k| with(after, self.shape.after(k)))
     }
