@@ -35,7 +35,7 @@ pub fn mark<V: Algebra>(set: bool) -> Option<V>
     if set { Some(V::unit()) } else { None }
 }
 
-// Do the two mean the same?
+// Do the two mean the same? `==` compares values, and this says of what they mean that it may.
 pub fn equal<V: Algebra>(a: Option<V>, b: Option<V>) -> bool
     ensures { Decides result (option_map V.means a ≡ option_map V.means b) }
 {

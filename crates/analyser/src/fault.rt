@@ -29,6 +29,7 @@ impl Why {
         match self {
             Why::Rack(found) => found.number(),
             Why::File(found) => found.number(),
+            // asked here alone; the others have their numbers where they are asked
             Why::NotOne => 18,
         }
     }

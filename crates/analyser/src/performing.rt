@@ -11,6 +11,7 @@ use program::record::Record;
 use rack::rack::Rack;
 use shelves::refusal::Refusal;
 
+// Each case is a call with arguments of its own, so a match is plainest.
 fn perform<V: Algebra>(rack: &mut Rack<V>, of: &Record) -> Result<usize, Refusal>
     ensures { CoreAnswers V.model V.means (as_call (entry of.now)) (answered V.model result) rack.old.core rack.new.core }
 {

@@ -15,6 +15,7 @@ pub struct Figures {
     pub ports: u32,
 }
 
+// Each algebra reads its own part of what is awaited.
 pub trait Told: Algebra {
     // Are a report's figure and tick as awaited?
     fn told(self, rt: &impl Abort, tick: Option<usize>, awaited: Figures);

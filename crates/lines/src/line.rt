@@ -67,7 +67,7 @@ impl<V: Shown> fmt::Display for Outcome<V> {
     }
 }
 
-// The line of an algebra.
+// The line of an algebra, as a text, so that a contract can say all of it.
 pub fn line<V: Shown>(heap: Global, found: Result<Report<V>, Fault>) -> Result<String, AllocError>
     ensures { IfOk result (λ s. string_bytes s ≡ line_words V.Shown.named V.Shown.words found) }
 {

@@ -12,7 +12,8 @@ use std::alloc::{AllocError, Global};
 // The most bytes that a file may have.
 pub const MOST_BYTES: usize = 32_768;
 
-// The records before the refusal, or all of them where none is refused.
+// The records before the refusal, or all of them where none is refused. No `Result`, since the records are wanted
+// either way.
 #[derive(Drop)]
 pub struct Listing {
     pub records: Vec<Record>,

@@ -11,7 +11,7 @@ use crate::record::Record;
 use crate::refusal::Refusal;
 use std::alloc::Global;
 
-// The record of a kind with this body.
+// The record of a kind with this body: each kind makes a case of its own, so a match is plainest.
 fn record(heap: Global, kind: Kind, body: &[u8]) -> Result<Record, Fault>
     ensures { MatchResult result (λ x. (kind_of (entry x) ≡ kind) × FitsBody (entry x) × (body.now ≡ body_of (entry x))) (λ e. Misfits e kind body.now) }
 {

@@ -58,6 +58,7 @@ fn put_body(out: &mut Vec<u8>, written: &Record) -> Result<(), AllocError>
     requires { long (entry written.now) < 65536 }
     ensures { OnOk result (FitsBody (entry written.now) × (out.new.items ≡ out.old.items ++ body_of (entry written.now))) }
 {
+    // A match, since cases that are written alike go by what they hold.
     match written {
         Record::Node { shelf, label } | Record::Pause { shelf, label } => {
             put_step(out, *shelf, *label)

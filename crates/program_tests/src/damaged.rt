@@ -29,6 +29,7 @@ fn cut_short(rt: HostRuntime) -> Result<(), Fail> {
     let heap = rt.alloc();
     let cut = Some(Refusal::Cut);
     reads(&rt, heap, &[], 0, None)?;
+    // n is how many bytes are left
     for n in 1..NODE.len() {
         reads(&rt, heap, &NODE[..n], 0, cut)?;
     }
@@ -74,6 +75,7 @@ fn large(rt: HostRuntime) -> Result<(), Fail> {
     let heap = rt.alloc();
     let mut bytes = Vec::new(heap);
     bytes.extend_from_slice(&NODE)?;
+    // so often, as a slice has no method that repeats it
     for _ in 0..6551usize {
         bytes.extend_from_slice(&LOOP)?;
     }

@@ -7,7 +7,7 @@ pub struct Situation {
     pub b: usize,
     // a set of phases, or of states, one bit for each
     pub set: u64,
-    // a mark for each side
+    // a mark for each side, which is all that it says: no value stands beside it
     pub wa: bool,
     pub wb: bool,
 }

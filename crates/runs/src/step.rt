@@ -1,4 +1,5 @@
-// A step: what one call of a program adds, recorded over the steps and arcs before it.
+// A step: what one call of a program adds, recorded over the steps and arcs before it. Steps name others by number, since
+// a rack has no heap for boxes.
 ghost use Rattle.std.specs.Prelude.{◌≡◌};
 ghost use Rattle.runs.specs.declared.step.Step.TheVariants.{Repeat};
 

@@ -1,4 +1,4 @@
-// Acting on a call whose questions before unrolling all said yes.
+// Acting on a call whose questions before unrolling all said yes: a function for each, as each is proved by its own effect.
 ghost use Rattle.shelves.specs.Calls.{node as node_call, pause as pause_call, table as table_call, pair as pair_call, loop as loop_call, clear as clear_call, report as report_call, reported};
 ghost use Rattle.shelves.specs.Cores.{CoreSaysYes, CoreDoes};
 ghost use Rattle.shelves.specs.Told.{reply_of, report_of};

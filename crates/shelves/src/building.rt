@@ -1,4 +1,5 @@
-// Building: what an accepted call does to what a rack holds.
+// Building: what an accepted call does to what a rack holds. A rule or a shelf stands beside the states in each clause, so
+// they are named as they are.
 ghost use Rattle.std.specs.Prelude.{◌≡◌, ◌<◌, [], ◌∷◌, ◌++◌, length, take, set, Some as present};
 ghost use Rattle.rows.specs.Pieces.{meanings};
 ghost use Rattle.runs.specs.declared.step.Step.TheVariants.{Node as node_step, Pause as pause_step};

@@ -1,4 +1,4 @@
-// The questions of a call, one function each; what a question does not concern is yes.
+// The questions of a call, one function each. A match names the calls that a question concerns, and the others are yes.
 ghost use Rattle.std.specs.Prelude.{◌≡◌, ℕ, ◌+◌, ◌<◌, ◌≤◌, true, false, length, is_some, Decides, slice_index_or};
 ghost use Rattle.std.specs.List.{AllByRecursion};
 ghost use Rattle.shelves.specs.Calls.{about, named};

@@ -81,6 +81,7 @@ impl<'a, V: Algebra> TicketRack<'a, V> {
             first: first.shelf,
             second: second.shelf,
         };
+        // no `?` here and below, since each arm takes the tickets
         match change(&mut self.core, call) {
             Ok(number) => {
                 let Ticket { shelf: _ } = second;
