@@ -1,5 +1,5 @@
-// The best: the smaller of two, the sum held at the top. It and the worst are two impls of one trait with its laws; one
-// type for both would need a marker, and a second trait with the same laws for the larger and the smaller.
+// The best: the smaller of two, the sum held at the top. Best and worst are two impls of one trait with its laws: one type
+// for both would need a second trait, for the larger and the smaller, that states the same laws again.
 ghost use Rattle.std.specs.Prelude.{◌≤◌, Some};
 ghost use Rattle.algebra.specs.Words.{cycles_words};
 ghost use Rattle.algebra.specs.Models.{best};

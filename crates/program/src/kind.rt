@@ -18,7 +18,7 @@ pub enum Kind {
 }
 
 impl Kind {
-    // The number that a file has for it, by a name that says so, which `From` would not.
+    // The number that a file has for it: `kind.number()` says what `u16::from(kind)` would not.
     pub fn number(self) -> u16
         ensures { result ≡ number_of self }
     {

@@ -15,7 +15,7 @@ pub enum Refusal {
 }
 
 impl Refusal {
-    // The number of the question, by a name that says so, which `From` would not.
+    // The number of the question: `why.number()` says what `u8::from(why)` would not.
     pub fn number(self) -> u8
         ensures { result ≡ number_of self }
     {

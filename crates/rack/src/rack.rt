@@ -24,7 +24,8 @@ pub struct Rack<'a, V: Algebra> {
     core: Core<'a, V>,
 }
 
-// Callers name each call by its own function; what they share is `change`.
+// Each call has a name of its own, since `choice(a, b)` says more plainly what is meant than `pair(Choice, a, b)`; what they
+// share is said once below them.
 impl<'a, V: Algebra> Rack<'a, V> {
     // A new rack over lent cells, after `enough` said yes of them. The history begins.
     pub fn open(cells: &'a mut [Option<V>]) -> Rack<'a, V>

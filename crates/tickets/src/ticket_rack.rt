@@ -28,7 +28,8 @@ pub struct TicketRack<'a, V: Algebra> {
     core: Core<'a, V>,
 }
 
-// Callers name each call by its own function; what they share is `leaf`, `pair` and the crate below.
+// Each call has a name of its own, since `choice(a, b)` says more plainly what is meant than `pair(Choice, a, b)`; what they
+// share is said once below them.
 impl<'a, V: Algebra> TicketRack<'a, V> {
     // A new rack over lent cells, after `enough` said yes of them. The history begins.
     pub fn open(cells: &'a mut [Option<V>]) -> TicketRack<'a, V>
