@@ -1,17 +1,18 @@
-use Rattle.std.proofs.Common.{◌+◌, ◌≤◌, take, ap, ◌∙◌, inr, arith}
+use Rattle.std.proofs.Common.{◌+◌, ◌≤◌, take, ap, ◌∙◌, inr, arith, rules}
+use Rattle.std.proofs.lemmas.Option.{MatchOption-at_some}
 use Rattle.rows.specs.Pieces.{meanings}
 use Rattle.rows.specs.Rules.Rule.{rows}
 use Rattle.rows.specs.Search.{noted}
 use Rattle.rows.proofs.Unrolling.{shape_of, agree_below, shelf_keeps, same_past, kept_below}
 use Rattle.rows.proofs.unroll.unroll.Goals as goal
 
-pub returns-in_default : goal.returns-in_default
-returns-in_default g c =
+pub returns-in_err-number : goal.returns-in_err-number
+returns-in_err-number g c =
     let kept = c.walk.ensures.below in
     record {
       past = c.walk.ensures.past;
       others = λ j low out. agree_below _ _ 2048 kept j low;
-      cases = (c.in_default.ensures.cases, kept);
+      cases = search (rules, kept);
     }
 
 pub returns-then-transient-period-gt64 : goal.returns-then-transient-period-gt64
@@ -20,9 +21,9 @@ returns-then-transient-period-gt64 g c =
     let f = g.V.Algebra.means in
     let rule = g.R.RowRule.works c.args.rule.now m (meanings f (take 2048 c.args.cells.now.lent.now)) in
     let kept = c.walk.ensures.below in
-    let turn = c.in-Some.ensures.cases in
-    let number = c.in-Some.field-0.number in
-    let earlier = c.in-Some.field-0.earlier in
+    let turn = MatchOption-at_some _ _ _ c.in_ok-number.ensures.ok_part c.walk.ensures.cases in
+    let number = c.in_ok-number.field-0.number in
+    let earlier = c.in_ok-number.field-0.earlier in
     record {
       past = c.walk.ensures.past;
       others = λ j low out. agree_below _ _ 2048 kept j low;
@@ -47,9 +48,9 @@ returns g c =
     let f = g.V.Algebra.means in
     let rule = g.R.RowRule.works c.args.rule.now m (meanings f (take 2048 c.args.cells.now.lent.now)) in
     let kept = c.walk.ensures.below in
-    let turn = c.in-Some.ensures.cases in
-    let number = c.in-Some.field-0.number in
-    let earlier = c.in-Some.field-0.earlier in
+    let turn = MatchOption-at_some _ _ _ c.in_ok-number.ensures.ok_part c.walk.ensures.cases in
+    let number = c.in_ok-number.field-0.number in
+    let earlier = c.in_ok-number.field-0.earlier in
     let before = c.walk.new.cells.lent.now in
     let after = c.fill.new.self.lent.now in
     let shelf = c.args.place.shelf in
