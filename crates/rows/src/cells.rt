@@ -3,7 +3,8 @@ ghost use Rattle.std.specs.Prelude.{◌≡◌, ℕ, ◌+◌, ◌<◌, ◌≤◌,
 
 use algebra::algebra::Algebra;
 
-// 128 cells for each of 16 shelves, then 2,048 to work in; any past 4,096 stay as they are.
+// 128 cells for each of 16 shelves, then 2,048 to work in; any past 4,096 stay as they are. A row of pauses and one of
+// exits are ranges of this one slice, since it is lent and what lies where in it is promised.
 #[derive(Drop)]
 pub struct Cells<'a, V> {
     pub lent: &'a mut [Option<V>],
