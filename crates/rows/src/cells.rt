@@ -11,19 +11,18 @@ pub struct Cells<'a, V> {
     ghost room: { 4096 ≤ length lent.now },
 }
 
-// All of them, to read.
+// At least the first N of them, to read.
 #[derive(Drop)]
-pub struct Room<'a, V> {
+pub struct Read<'a, V, const N: usize> {
     pub cells: &'a [Option<V>],
-    ghost long: { 4096 ≤ length cells.now },
+    ghost long: { N ≤ length cells.now },
 }
 
-// What the 16 shelves keep, to read: at least the first 2,048 cells.
-#[derive(Drop)]
-pub struct Kept<'a, V> {
-    pub cells: &'a [Option<V>],
-    ghost long: { 2048 ≤ length cells.now },
-}
+// All that are lent.
+pub type Room<'a, V> = Read<'a, V, 4096>;
+
+// What the 16 shelves keep.
+pub type Kept<'a, V> = Read<'a, V, 2048>;
 
 impl<'a, V: Algebra> Cells<'a, V> {
     // Sets the first 4,096 to absent.
@@ -37,13 +36,13 @@ impl<'a, V: Algebra> Cells<'a, V> {
     pub fn room<'b>(&'b self) -> Room<'b, V>
         ensures { result.cells.now ≡ self.now.lent.now }
     {
-        Room { cells: &*self.lent }
+        Read { cells: &*self.lent }
     }
 
     pub fn kept<'b>(&'b self) -> Kept<'b, V>
         ensures { result.cells.now ≡ take 2048 self.now.lent.now }
     {
-        Kept {
+        Read {
             cells: &self.lent[0..2048],
         }
     }

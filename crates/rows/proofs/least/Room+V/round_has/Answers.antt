@@ -4,7 +4,7 @@ use Rattle.std.proofs.lemmas.Iterator.{cases_from_all, YieldsList-from_range}
 use Rattle.rows.specs.Pieces.{meanings}
 use Rattle.rows.specs.Search.{noted}
 use Rattle.rows.proofs.Shapes.{Back, back_decides}
-use Rattle.rows.proofs.cells.Room.round_has.Goals as goal
+use Rattle.rows.proofs.least.Room+V.round_has.Goals as goal
 
 pub returns : goal.returns
 returns g c =

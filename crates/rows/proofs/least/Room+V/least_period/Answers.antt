@@ -4,7 +4,7 @@ use Rattle.std.proofs.lemmas.Iterator.{first_from_Range}
 use Rattle.rows.specs.Pieces.{meanings}
 use Rattle.rows.specs.Search.{noted, LeastPeriod}
 use Rattle.rows.proofs.Shapes.{Period, least_period_from}
-use Rattle.rows.proofs.cells.Room.least_period.Goals as goal
+use Rattle.rows.proofs.least.Room+V.least_period.Goals as goal
 
 pub returns : goal.returns
 returns g c =
