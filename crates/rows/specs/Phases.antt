@@ -1,5 +1,10 @@
 -- Phases: where a tick falls in rows that repeat from a transient on with a period.
 use Rattle.std.specs.Prelude.{◌≡◌, ℕ, zero, suc, ◌+◌, ◌-◌, ◌%◌, ◌<◌, ◌≤◌, cond, nat_lt}
+use Rattle.rows.specs.declared.shape.Shape.{Shape}
+
+-- k is a phase of the shape: it indexes a row of it
+abbrev pub IsPhase : Shape → (k : ℕ) → Type 0
+IsPhase shape k = k < shape.transient + shape.period
 
 -- the phase after k: k + 1, or the transient where k + 1 reaches transient plus period
 abbrev pub after : (transient period k : ℕ) → ℕ

@@ -1,5 +1,5 @@
 // Abort, H over A: both phases, and whether A was paused at the tick before.
-ghost use Rattle.std.specs.Prelude.{◌+◌, ◌<◌};
+ghost use Rattle.rows.specs.Phases.{IsPhase};
 ghost use Rattle.rows.specs.Pieces.{rows_of};
 ghost use Rattle.rows.specs.Rules.Abort.{abort as the_abort};
 
@@ -17,7 +17,7 @@ pub struct Abort {
 }
 
 impl RowRule for Abort {
-    ghost fits = { λ r s. (s.a < r.h.shape.transient + r.h.shape.period) × (s.b < r.a.shape.transient + r.a.shape.period) };
+    ghost fits = { λ r s. IsPhase r.h.shape s.a × IsPhase r.a.shape s.b };
 
     ghost works = { λ r m cells. the_abort m (rows_of m cells r.h) (rows_of m cells r.a) };
 

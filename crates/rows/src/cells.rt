@@ -3,26 +3,26 @@ ghost use Rattle.std.specs.Prelude.{◌≡◌, ℕ, ◌+◌, ◌<◌, ◌≤◌,
 
 use algebra::algebra::Algebra;
 
-// 128 cells for each of 16 shelves, then 2,048 to work in; any past 4,096 stay as they are.
+// 128 cells for each of 16 shelves, then 2,048 to work in; any past 4,096 stay as they are. A row of pauses and one of
+// exits are ranges of this one slice, since it is lent and what lies where in it is promised.
 #[derive(Drop)]
 pub struct Cells<'a, V> {
     pub lent: &'a mut [Option<V>],
     ghost room: { 4096 ≤ length lent.now },
 }
 
-// All of them, to read.
+// At least the first N of them, to read.
 #[derive(Drop)]
-pub struct Room<'a, V> {
+pub struct Read<'a, V, const N: usize> {
     pub cells: &'a [Option<V>],
-    ghost long: { 4096 ≤ length cells.now },
+    ghost long: { N ≤ length cells.now },
 }
 
-// What the 16 shelves keep, to read: at least the first 2,048 cells.
-#[derive(Drop)]
-pub struct Kept<'a, V> {
-    pub cells: &'a [Option<V>],
-    ghost long: { 2048 ≤ length cells.now },
-}
+// All that are lent.
+pub type Room<'a, V> = Read<'a, V, 4096>;
+
+// What the 16 shelves keep.
+pub type Kept<'a, V> = Read<'a, V, 2048>;
 
 impl<'a, V: Algebra> Cells<'a, V> {
     // Sets the first 4,096 to absent.
@@ -36,13 +36,13 @@ impl<'a, V: Algebra> Cells<'a, V> {
     pub fn room<'b>(&'b self) -> Room<'b, V>
         ensures { result.cells.now ≡ self.now.lent.now }
     {
-        Room { cells: &*self.lent }
+        Read { cells: &*self.lent }
     }
 
     pub fn kept<'b>(&'b self) -> Kept<'b, V>
         ensures { result.cells.now ≡ take 2048 self.now.lent.now }
     {
-        Kept {
+        Read {
             cells: &self.lent[0..2048],
         }
     }

@@ -1,5 +1,5 @@
 // Choice of A and B: both phases, joined tick by tick.
-ghost use Rattle.std.specs.Prelude.{◌+◌, ◌<◌};
+ghost use Rattle.rows.specs.Phases.{IsPhase};
 ghost use Rattle.rows.specs.Pieces.{rows_of};
 ghost use Rattle.rows.specs.Rules.Choice.{choice as the_choice};
 
@@ -17,7 +17,7 @@ pub struct Choice {
 }
 
 impl RowRule for Choice {
-    ghost fits = { λ r s. (s.a < r.a.shape.transient + r.a.shape.period) × (s.b < r.b.shape.transient + r.b.shape.period) };
+    ghost fits = { λ r s. IsPhase r.a.shape s.a × IsPhase r.b.shape s.b };
 
     ghost works = { λ r m cells. the_choice m (rows_of m cells r.a) (rows_of m cells r.b) };
 

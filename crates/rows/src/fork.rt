@@ -1,5 +1,5 @@
 // Fork of A and B: both phases, and for each side whether it may have left earlier.
-ghost use Rattle.std.specs.Prelude.{◌+◌, ◌<◌};
+ghost use Rattle.rows.specs.Phases.{IsPhase};
 ghost use Rattle.rows.specs.Pieces.{rows_of};
 ghost use Rattle.rows.specs.Rules.Fork.{fork as the_fork};
 
@@ -17,7 +17,7 @@ pub struct Fork {
 }
 
 impl RowRule for Fork {
-    ghost fits = { λ r s. (s.a < r.a.shape.transient + r.a.shape.period) × (s.b < r.b.shape.transient + r.b.shape.period) };
+    ghost fits = { λ r s. IsPhase r.a.shape s.a × IsPhase r.b.shape s.b };
 
     ghost works = { λ r m cells. the_fork m (rows_of m cells r.a) (rows_of m cells r.b) };
 

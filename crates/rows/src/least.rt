@@ -4,6 +4,7 @@ ghost use Rattle.rows.specs.Pieces.{meanings};
 ghost use Rattle.rows.specs.Search.{noted, folded, RoundHas, LeastPeriod, LeastTransient};
 
 use crate::cells::Room;
+use crate::walk::Turn;
 use algebra::algebra::Algebra;
 use algebra::coefficient::equal;
 
@@ -18,32 +19,36 @@ impl<'a, V: Algebra> Room<'a, V> {
         pauses & exits
     }
 
-    // Is tick k the same as the one d later, taken back into the round from i up to n?
-    fn comes_back(&self, i: usize, n: usize, d: usize, k: usize) -> bool
-        requires { (i ≤ k) × ((k < n) × ((n < 1024) × (d ≤ n - i))) }
-        ensures { Decides result (noted V.model (meanings V.means self.now.cells.now) (folded i n (k + d)) ≡ noted V.model (meanings V.means self.now.cells.now) k) }
+    // Is tick k the same as the one d later, taken back into the round?
+    fn comes_back(&self, turn: Turn, d: usize, k: usize) -> bool
+        requires { (turn.earlier ≤ k) × (k < turn.number) × (d ≤ turn.number - turn.earlier) }
+        ensures { Decides result (noted V.model (meanings V.means self.now.cells.now) (folded turn.earlier turn.number (k + d)) ≡ noted V.model (meanings V.means self.now.cells.now) k) }
     {
         let later = k + d;
-        let back = if later < n { later } else { later - (n - i) };
+        let back = if later < turn.number {
+            later
+        } else {
+            later - (turn.number - turn.earlier)
+        };
         self.same(back, k)
     }
 
-    // Does the round from i up to n have the period d?
-    fn round_has(&self, i: usize, n: usize, d: usize) -> bool
-        requires { (i < n) × ((n < 1024) × (d ≤ n - i)) }
-        ensures { Decides result (RoundHas (noted V.model (meanings V.means self.now.cells.now)) i n d) }
+    // Does the round have the period d?
+    fn round_has(&self, turn: Turn, d: usize) -> bool
+        requires { d ≤ turn.number - turn.earlier }
+        ensures { Decides result (RoundHas (noted V.model (meanings V.means self.now.cells.now)) turn.earlier turn.number d) }
     {
-        (i..n).all(|k| self.comes_back(i, n, d, k))
+        (turn.earlier..turn.number).all(|k| self.comes_back(turn, d, k))
     }
 
-    // The least period of the round from i up to n.
-    pub fn least_period(&self, i: usize, n: usize) -> usize
-        requires { (i < n) × (n < 1024) }
-        ensures { LeastPeriod (noted V.model (meanings V.means self.now.cells.now)) i n result }
+    // The least period of the round.
+    pub fn least_period(&self, turn: Turn) -> usize
+        ensures { LeastPeriod (noted V.model (meanings V.means self.now.cells.now)) turn.earlier turn.number result }
     {
-        (1..n - i)
-            .find(|d| self.round_has(i, n, *d))
-            .unwrap_or(n - i)
+        let round = turn.number - turn.earlier;
+        (1..round)
+            .find(|d| self.round_has(turn, *d))
+            .unwrap_or(round)
     }
 
     // The least tick from which the rows have the period d up to i.

@@ -1,6 +1,6 @@
 // Phases: where a tick falls in a shape.
-ghost use Rattle.std.specs.Prelude.{◌≡◌, ℕ, ◌+◌, ◌<◌, ◌≤◌};
-ghost use Rattle.rows.specs.Phases.{after as phase_after, Phases};
+ghost use Rattle.std.specs.Prelude.{◌≡◌, ℕ, ◌+◌, ◌≤◌};
+ghost use Rattle.rows.specs.Phases.{after as phase_after, IsPhase, Phases};
 
 use crate::shape::Shape;
 
@@ -14,9 +14,9 @@ impl Shape {
 
     // The phase after k.
     pub fn after(&self, k: usize) -> usize
-        requires { k < self.now.transient + self.now.period }
+        requires { IsPhase self.now k }
         ensures value { result ≡ phase_after self.now.transient self.now.period k }
-        ensures within { result < self.now.transient + self.now.period }
+        ensures within { IsPhase self.now result }
     {
         if k + 1 < self.transient + self.period {
             k + 1

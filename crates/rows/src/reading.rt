@@ -1,6 +1,7 @@
 // Reading a piece's coefficients from the cells, and joining or moving a set of its phases.
-ghost use Rattle.std.specs.Prelude.{◌≡◌, ◌+◌, ◌<◌};
+ghost use Rattle.std.specs.Prelude.{◌≡◌};
 ghost use Rattle.std.specs.Option.{option_map};
+ghost use Rattle.rows.specs.Phases.{IsPhase};
 ghost use Rattle.rows.specs.Pieces.{rows_of, meanings, row as row_of, size, moved as phases_after};
 ghost use Rattle.rows.specs.Sets.{has as has_member, joins};
 
@@ -13,7 +14,7 @@ use algebra::coefficient::join;
 impl Piece {
     // The coefficient of a row at phase k.
     pub fn at<V: Algebra>(&self, row: Row, kept: &Kept<V>, k: usize) -> Option<V>
-        requires { k < self.now.shape.transient + self.now.shape.period }
+        requires { IsPhase self.now.shape k }
         ensures { option_map V.means result ≡ row_of (rows_of V.model (meanings V.means kept.now.cells.now) self.now) row k }
     {
         match row {
@@ -38,7 +39,7 @@ impl Piece {
         (0..self.shape.size())
             .filter(
                 |&k|
-                    requires { k < self.now.shape.transient + self.now.shape.period }
+                    requires { IsPhase self.now.shape k }
                 { has(set, k) && self.at(Row::Pause, kept, k).is_some() },
             )
             .fold(0, |after, k| with(after, self.shape.after(k)))

@@ -1,5 +1,5 @@
 // Sequence of A and B: A's phase and the set of phases that B may be in.
-ghost use Rattle.std.specs.Prelude.{◌+◌, ◌<◌};
+ghost use Rattle.rows.specs.Phases.{IsPhase};
 ghost use Rattle.rows.specs.Pieces.{rows_of};
 ghost use Rattle.rows.specs.Rules.Sequence.{sequence as the_sequence};
 
@@ -18,7 +18,7 @@ pub struct Sequence {
 }
 
 impl RowRule for Sequence {
-    ghost fits = { λ r s. s.a < r.a.shape.transient + r.a.shape.period };
+    ghost fits = { λ r s. IsPhase r.a.shape s.a };
 
     ghost works = { λ r m cells. the_sequence m (rows_of m cells r.a) (rows_of m cells r.b) };
 

@@ -9,7 +9,7 @@ use crate::outcome::{Unkept, Unrolled};
 use crate::place::Place;
 use crate::rule::RowRule;
 use crate::shape::Shape;
-use crate::walk::{Turn, walk};
+use crate::walk::walk;
 use algebra::algebra::Algebra;
 
 // The working cells, from 2,048 up to 4,096, are free afterwards.
@@ -22,19 +22,16 @@ pub fn unroll<R: RowRule, V: Algebra>(
     ensures others { (j : ℕ) → j < 2048 → (j < 128 * place.shelf) ⊎ (128 * place.shelf + 128 ≤ j) → slice_index_or cells.new.lent.now j absent ≡ slice_index_or cells.old.lent.now j absent }
     ensures cases { let over = R.RowRule.works rule.now V.Algebra.model (meanings V.Algebra.means (take 2048 cells.old.lent.now)) in MatchResult result (λ u. Unrolls over u.reply place.shelf u.shape.transient u.shape.period (meanings V.Algebra.means (take 2048 cells.new.lent.now))) (λ no. Refused over no × (take 2048 cells.new.lent.now ≡ take 2048 cells.old.lent.now)) }
 {
-    // not ok_or(..)?: its proof lost the link to what `?` returns
-    let Some(Turn { number, earlier }) = walk(rule, cells) else {
-        return Err(Unkept::NeverSoon);
-    };
+    let turn = walk(rule, cells).ok_or(Unkept::NeverSoon)?;
     let noted = cells.room();
-    let period = noted.least_period(earlier, number);
-    let transient = noted.least_transient(earlier, period);
+    let period = noted.least_period(turn);
+    let transient = noted.least_transient(turn.earlier, period);
     if transient + period > 64 {
         return Err(Unkept::TooLong);
     }
     cells.fill(place, transient + period);
     Ok(Unrolled {
-        reply: number,
+        reply: turn.number,
         shape: Shape { transient, period },
     })
 }

@@ -10,11 +10,13 @@ use crate::rule::{RowRule, Tick};
 use crate::situations::Situations;
 use algebra::algebra::Algebra;
 
-// A situation that equals an earlier one, by their numbers.
+// A situation that equals an earlier one, by their numbers: the ticks from the earlier one up to it are a round.
 #[derive(Clone, Copy, Debug, PartialEq, Eq)]
 pub struct Turn {
     pub number: usize,
     pub earlier: usize,
+    ghost order: { earlier < number },
+    ghost soon: { number < 1024 },
 }
 
 // A situation that equals an earlier one makes both rows repeat from there, with the distance as a period.
@@ -27,7 +29,7 @@ pub fn repeating_stands<V: Algebra>()
 pub fn walk<R: RowRule, V: Algebra>(rule: &R, cells: &mut Cells<V>) -> Option<Turn>
     ensures below { take 2048 cells.new.lent.now ≡ take 2048 cells.old.lent.now }
     ensures past { drop 4096 cells.new.lent.now ≡ drop 4096 cells.old.lent.now }
-    ensures cases { let over = R.RowRule.works rule.now V.Algebra.model (meanings V.Algebra.means (take 2048 cells.old.lent.now)) in MatchOption result (NoRepeat (at over) 1024) (λ t. (t.number < 1024) × (t.earlier < t.number) × (at over t.earlier ≡ at over t.number) × NoRepeat (at over) t.number × ((k : ℕ) → k < t.number → noted V.Algebra.model (meanings V.Algebra.means cells.new.lent.now) k ≡ rows over k)) }
+    ensures cases { let over = R.RowRule.works rule.now V.Algebra.model (meanings V.Algebra.means (take 2048 cells.old.lent.now)) in MatchOption result (NoRepeat (at over) 1024) (λ t. (at over t.earlier ≡ at over t.number) × NoRepeat (at over) t.number × ((k : ℕ) → k < t.number → noted V.Algebra.model (meanings V.Algebra.means cells.new.lent.now) k ≡ rows over k)) }
 {
     let mut seen = Situations::new();
     let mut s = rule.first::<V>();

@@ -15,7 +15,7 @@ returns-in-Some g c =
     record {
       below = c.loop-n.invariant.2;
       past = c.loop-n.invariant.3;
-      cases = (c.loop-n-test.true, earlier, sym (w.seen c.in-Some.earlier (omega arith) earlier) ∙ found.1 ∙ w.here, w.fresh, λ k less. w.kept k (omega arith) less);
+      cases = (sym (w.seen c.in-Some.earlier (omega arith) earlier) ∙ found.1 ∙ w.here, w.fresh, λ k less. w.kept k (omega arith) less);
     }
 
 pub loop-n-init : goal.loop-n-init

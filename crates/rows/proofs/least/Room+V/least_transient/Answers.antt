@@ -5,7 +5,7 @@ use Rattle.rows.specs.Pieces.{meanings}
 use Rattle.rows.specs.Search.{noted}
 use Rattle.rows.proofs.Backwards.{down_from, last_passing}
 use Rattle.rows.proofs.Shapes.{Same, least_transient_from}
-use Rattle.rows.proofs.cells.Room.least_transient.Goals as goal
+use Rattle.rows.proofs.least.Room+V.least_transient.Goals as goal
 
 pub returns : goal.returns
 returns g c =
