@@ -1,5 +1,5 @@
 -- What a call does, by its reply: the state afterwards as equations.
-use Rattle.std.specs.Prelude.{◌≡◌, ℕ, zero, suc, ◌+◌, ◌*◌, ◌<◌, ◌≤◌, Bool, true, false, ◌≢◌, List, [], ◌∷◌, ◌++◌, length, Some, None, Option, slice_index_or, slice_set}
+use Rattle.std.specs.Prelude.{◌≡◌, ℕ, zero, suc, ◌+◌, ◌*◌, ◌<◌, ◌≤◌, Bool, true, false, ◌≢◌, List, [], ◌∷◌, ◌++◌, length, drop, Some, None, Option, slice_index_or, slice_set}
 use Rattle.algebra.specs.declared.arc.Arc.{Arc}
 use Rattle.algebra.specs.declared.label.Label.{Label}
 use Rattle.algebra.specs.Model.{Model}
@@ -41,6 +41,11 @@ pair_step Abort i j = step.Abort i j
 -- cell j is one of shelf k's
 abbrev pub OfShelf : (k j : ℕ) → Type 0
 OfShelf k j = (128 * k ≤ j) × (j < 128 * k + 128)
+
+-- of the lent cells, only those of shelf k and the working cells may have changed
+pub record OnlyShelf {X : Type 0} (k : ℕ) (before after : List (Option X)) : Type 0 where
+  pub others : (j : ℕ) → j < 2048 → (OfShelf k j → ⊥) → slice_index_or after j None ≡ slice_index_or before j None
+  pub past : drop 4096 after ≡ drop 4096 before
 
 module _ (m : Model) where
   -- the cells of shelf k are all absent

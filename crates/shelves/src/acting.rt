@@ -64,7 +64,7 @@ pub fn act_loop<V: Algebra>(core: &mut Core<V>, shelf: u8) -> Reply<V>
     let place = Place {
         shelf: shelf as usize,
     };
-    let i = core.shelves.at(place.shelf).step.unwrap_or(0);
+    let i = core.shelves.at(place.shelf).step.unwrap();
     let number = put_loop(core, place, i)?;
     Ok(Answer::Accepted(number))
 }
@@ -113,8 +113,8 @@ pub fn act_pair<V: Algebra>(core: &mut Core<V>, kind: Pairing, first: u8, second
     let b = Place {
         shelf: second as usize,
     };
-    let i = core.shelves.at(a.shelf).step.unwrap_or(0);
-    let j = core.shelves.at(b.shelf).step.unwrap_or(0);
+    let i = core.shelves.at(a.shelf).step.unwrap();
+    let j = core.shelves.at(b.shelf).step.unwrap();
     let number = put_pair(core, kind, a, b, i, j)?;
     empty(core, b);
     Ok(Answer::Accepted(number))
