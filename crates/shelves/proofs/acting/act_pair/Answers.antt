@@ -15,19 +15,19 @@ returns-in_err-number g c =
     let s = state_of m g.V.Algebra.means c.args.core.now in
     let p = err_from_is_err_and c.from_residual.result c.from_residual.ensures.1 in
     let no = c.in_err-number.field-0.0 in
-    let found = c.in_err-number.ensures in
+    let found = rw (c.place-a.ensures, c.place-b.ensures) at c.in_err-number.ensures in
     rw (p.1, p.2) (no_after (Yes m s (pair c.args.kind c.args.first c.args.second)) early (NeverRepeats ∷ TooLong ∷ []) no c.requires (stop_no (pair_rule m c.args.kind (shelf_rows s c.args.first) (shelf_rows s c.args.second)) no found.0), found.1)
 
 pub returns : goal.returns
 returns g c =
     let m = g.V.Algebra.model in
     let s = state_of m g.V.Algebra.means c.args.core.now in
-    let done = c.in_ok-number.ensures in
+    let done = rw (c.place-a.ensures, c.place-b.ensures) at c.in_ok-number.ensures in
     let puts = done.1 in
-    let at = ap (λ (x : ShelfState). x.step) c.at.ensures in
-    let at_2 = ap (λ (x : ShelfState). x.step) c.at-2.ensures in
+    let at = ap (λ (x : ShelfState). x.step) (rw c.place-a.ensures at c.at.ensures) in
+    let at_2 = ap (λ (x : ShelfState). x.step) (rw c.place-b.ensures at c.at-2.ensures) in
     let first = sym at ∙ c.unwrap-i.ensures in
     let second = sym at_2 ∙ c.unwrap-j.ensures in (
       all_then (Yes m s (pair c.args.kind c.args.first c.args.second)) early (NeverRepeats ∷ TooLong ∷ []) c.requires (((c.in_ok-number.number, done.0.0, done.0.1), tt), (((puts.transient, puts.period, puts.keeps.least, puts.short), tt), tt)),
-      (done.0, (c.unwrap-i.result, c.unwrap-j.result, state_of m g.V.Algebra.means c.put_pair.new.core, first, second, puts, c.empty.ensures)),
+      (done.0, (c.unwrap-i.result, c.unwrap-j.result, state_of m g.V.Algebra.means c.put_pair.new.core, first, second, puts, rw c.place-b.ensures at c.empty.ensures)),
     )
