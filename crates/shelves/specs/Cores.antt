@@ -14,7 +14,7 @@ use Rattle.shelves.specs.Calls.{Call, Reply}
 use Rattle.shelves.specs.Effects.{Puts, Empties, Does}
 use Rattle.shelves.specs.Held.{state_of, call_of}
 use Rattle.shelves.specs.Promise.{Fresh, Made, Kept, Answers, AnswersAll}
-use Rattle.shelves.specs.Questions.{Yes, AllYes}
+use Rattle.shelves.specs.Questions.{Yes, AllYes, FirstNo}
 use Rattle.shelves.specs.Refusals.{early}
 use Rattle.shelves.specs.State.{shelf_rows}
 use Rattle.shelves.specs.Stops.{Built}
@@ -32,6 +32,10 @@ module _ (m : Model) {V : Type 0} (means : V → m.Carrier) where
   -- every question of the call that is asked before unrolling says yes
   abbrev pub CoreSaysYes : Call → Core V → Type 0
   CoreSaysYes call core = AllYes (Yes m (state_of m means core) call) early
+
+  -- the first of those questions that says no is this refusal's
+  abbrev pub CoreSaysNo : Call → Core V → Refusal → Type 0
+  CoreSaysNo call core = FirstNo (Yes m (state_of m means core) call) early
 
   -- the call with its reply takes the rack from before to after as the questions and its effect say
   abbrev pub CoreDoes : Call → Reply m → (before after : Core V) → Type 0
