@@ -3,8 +3,8 @@ ghost use Rattle.std.specs.Prelude.{◌≡◌, ◌+◌, ◌<◌, true, Some as p
 ghost use Rattle.std.specs.Option.{option_map};
 ghost use Rattle.algebra.specs.Coefficients.{join as joined};
 ghost use Rattle.rows.specs.Pieces.{pause_at, exit_at};
-ghost use Rattle.shelves.specs.Effects.{FirstTick};
-ghost use Rattle.shelves.specs.Told.{given, figure_of, report_of};
+ghost use Rattle.shelves.specs.Effects.{figure_of, FirstTick};
+ghost use Rattle.shelves.specs.Told.{given, report_of};
 
 use crate::report::Report;
 use algebra::algebra::Algebra;
@@ -48,6 +48,7 @@ pub fn report<V: Algebra>(kept: &Kept<V>, piece: Piece) -> Report<V>
     ensures period { (report_of V.model V.means result).period ≡ piece.shape.period }
 {
     let figure = figure(&piece, kept);
+    // move: borrowed, the piece would be lost to what is proved of the tick
     let tick = V::chooses().then(move || first_tick(&piece, kept, figure));
     Report {
         figure,
