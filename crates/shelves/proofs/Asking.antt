@@ -1,6 +1,5 @@
 -- The questions before unrolling and those of unrolling, put together.
-use Rattle.std.proofs.Common.{◌≡◌, ℕ, ◌+◌, ◌≤◌, true, ◌⊎◌, List, [], ◌∷◌, ◌++◌, is_some, Some, None, Option, unwrap_or, refl, subst, inl, inr, arith}
-use Rattle.std.proofs.lemmas.Bool.{false≢true}
+use Rattle.std.proofs.Common.{◌≡◌, ℕ, ◌+◌, ◌≤◌, ◌⊎◌, List, [], ◌∷◌, ◌++◌, refl, subst, inl, inr, arith}
 use Rattle.algebra.specs.Model.{Model}
 use Rattle.rows.specs.Repeats.{Repeats, LeastShape}
 use Rattle.rows.specs.Rules.Rule.{Rule, rows}
@@ -61,8 +60,3 @@ stop_no rule StateWithoutArc h = absurd h
 stop_no rule StepsFull h = absurd h
 stop_no rule ArcsFull h = absurd h
 stop_no rule LeavesAtOnce h = absurd h
-
--- a step that is there is the one that is read
-pub there : (o : Option ℕ) → is_some o ≡ true → o ≡ Some (unwrap_or o 0)
-there None h = absurd (false≢true h)
-there (Some i) h = refl

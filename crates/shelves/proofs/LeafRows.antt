@@ -14,7 +14,7 @@ use Rattle.rows.specs.Unrolled.{Keeps}
 use Rattle.rows.proofs.Ranges.{up_to}
 use Rattle.rows.proofs.Unrolling.{shelf_keeps, kept_below, agree_below, same_past}
 use Rattle.rows.proofs.Walking.{noted_now, noted_then, shelves_same, past_same}
-use Rattle.shelves.specs.Effects.{OfShelf, node_row, pause_row}
+use Rattle.shelves.specs.Effects.{OfShelf, OnlyShelf, node_row, pause_row}
 
 -- a present coefficient is not absent
 some_none : {X : Type 0} (x : X) → Some x ≡ None → ⊥
@@ -86,13 +86,12 @@ module _ (m : Model) {V : Type 0} (f : V → m.Carrier) (row : ℕ → Coef m ×
       kept_below m f row after k t d low short
       (shelf_keeps m f row cells after k t d (t + d) filled short (omega arith) (λ j less. noting.rows j (omega arith) less) least)
 
--- what a fill leaves as it was
-module _ {X : Type 0} (before cells after : List (Option X)) (k size : ℕ) (filled : Filled cells after k size) (low : k ≤ 15) where
-  pub fill_others : take 2048 cells ≡ take 2048 before → (j : ℕ) → j < 2048 → (OfShelf k j → ⊥) → get_or after j None ≡ get_or before j None
-  fill_others below j less out = filled.others j (apart k j out) ∙ agree_below cells before 2048 below j less
-
-  pub fill_past : drop 4096 cells ≡ drop 4096 before → drop 4096 after ≡ drop 4096 before
-  fill_past past = same_past after cells 4096 filled.len (λ j far. filled.others j (inr (omega arith))) ∙ past
+-- a fill leaves the other shelves as they were, where the working cells alone had changed
+pub fill_only : {X : Type 0} (before cells after : List (Option X)) (k size : ℕ) → Filled cells after k size → k ≤ 15 → take 2048 cells ≡ take 2048 before → drop 4096 cells ≡ drop 4096 before → OnlyShelf k before after
+fill_only before cells after k size filled low below past = record {
+  others = λ j less out. filled.others j (apart k j out) ∙ agree_below cells before 2048 below j less;
+  past = same_past after cells 4096 filled.len (λ j far. filled.others j (inr (omega arith))) ∙ past;
+}
 
 -- a shelf filled with nothing is absent everywhere
 pub filled_blank : {X : Type 0} (cells after : List (Option X)) (k : ℕ) → Filled cells after k 0 → (j : ℕ) → OfShelf k j → get_or after j None ≡ None

@@ -1,16 +1,16 @@
 -- What a call does, by its reply: the state afterwards as equations.
-use Rattle.std.specs.Prelude.{◌≡◌, ℕ, zero, suc, ◌+◌, ◌*◌, ◌<◌, ◌≤◌, Bool, true, false, ◌≢◌, List, [], ◌∷◌, ◌++◌, length, Some, None, Option, slice_index_or, slice_set}
+use Rattle.std.specs.Prelude.{◌≡◌, ℕ, zero, suc, ◌+◌, ◌*◌, ◌<◌, ◌≤◌, Bool, true, false, ◌≢◌, List, [], ◌∷◌, ◌++◌, length, drop, Some, None, Option, slice_index_or, slice_set}
 use Rattle.algebra.specs.declared.arc.Arc.{Arc}
 use Rattle.algebra.specs.declared.label.Label.{Label}
 use Rattle.algebra.specs.Model.{Model}
 use Rattle.algebra.specs.Coefficients.{Coef, join}
-use Rattle.rows.specs.Pieces.{Rows, pause_at, exit_at}
+use Rattle.rows.specs.Pieces.{Rows, size, pause_at, exit_at}
 use Rattle.rows.specs.Repeats.{FirstRepeat}
 use Rattle.rows.specs.Rules.Rule.{Rule, at, rows}
 use Rattle.rows.specs.Rules.Table as table_rule
 use Rattle.rows.specs.Rules.Loop as loop_rule
 use Rattle.rows.specs.Unrolled.{Keeps}
-use Rattle.runs.specs.Figure.{figure as figure_of}
+use Rattle.runs.specs.Figure.{figure}
 use Rattle.runs.specs.declared.step.Step.{Step}
 use Rattle.runs.specs.declared.step.Step.TheVariants as step
 use Rattle.shelves.specs.declared.call.Pairing.{Pairing}
@@ -41,6 +41,11 @@ pair_step Abort i j = step.Abort i j
 -- cell j is one of shelf k's
 abbrev pub OfShelf : (k j : ℕ) → Type 0
 OfShelf k j = (128 * k ≤ j) × (j < 128 * k + 128)
+
+-- of the lent cells, only those of shelf k and the working cells may have changed
+pub record OnlyShelf {X : Type 0} (k : ℕ) (before after : List (Option X)) : Type 0 where
+  pub others : (j : ℕ) → j < 2048 → (OfShelf k j → ⊥) → slice_index_or after j None ≡ slice_index_or before j None
+  pub past : drop 4096 after ≡ drop 4096 before
 
 module _ (m : Model) where
   -- the cells of shelf k are all absent
@@ -89,6 +94,10 @@ module _ (m : Model) where
   Accepts (clear k) n s s' = (n ≡ 0) × Empties k s s'
   Accepts (report k) n s s' = ⊥
 
+  -- the figure of two rows: their join over all phases
+  abbrev pub figure_of : Rows m → Coef m
+  figure_of a = figure m (pause_at a) (exit_at a) (size a)
+
   -- the first tick of a report: where the algebra chooses, the least tick at which both rows joined are the figure
   abbrev pub FirstTick : Bool → Coef m → Rows m → Option ℕ → Type 0
   FirstTick true figure given None = ⊥
@@ -98,7 +107,7 @@ module _ (m : Model) where
 
   -- what report gives of shelf k: the join of both rows over all phases, the first tick, and the shape
   pub record Reports (k : ℕ) (r : Report m) (s : State m) : Type 0 where
-    pub figure : r.figure ≡ figure_of m (pause_at (shelf_rows s k)) (exit_at (shelf_rows s k)) ((shelf_at s k).transient + (shelf_at s k).period)
+    pub figure : r.figure ≡ figure_of (shelf_rows s k)
     pub tick : FirstTick m.chooses r.figure (shelf_rows s k) r.tick
     pub transient : r.transient ≡ (shelf_at s k).transient
     pub period : r.period ≡ (shelf_at s k).period

@@ -1,4 +1,6 @@
-// Acting on a call whose questions before unrolling all said yes: a function for each, as each is proved by its own effect.
+// Acting on a call whose questions before unrolling all said yes, a function for each. Node and pause differ in the rows
+// written, the shape and the step, and share no more than the way they call, so each stands by itself.
+ghost use Rattle.std.specs.Prelude.{◌≡◌, ◌≤◌};
 ghost use Rattle.shelves.specs.Calls.{node as node_call, pause as pause_call, table as table_call, pair as pair_call, loop as loop_call, clear as clear_call, report as report_call, reported};
 ghost use Rattle.shelves.specs.Cores.{CoreSaysYes, CoreDoes};
 ghost use Rattle.shelves.specs.Told.{reply_of, report_of};
@@ -15,17 +17,21 @@ use algebra::arc::Arc;
 use algebra::label::Label;
 use rows::place::Place;
 
+// The place that a call names.
+fn place(shelf: u8) -> Place
+    requires { shelf ≤ 15 }
+    ensures { result.shelf ≡ shelf }
+{
+    Place {
+        shelf: shelf as usize,
+    }
+}
+
 pub fn act_node<V: Algebra>(core: &mut Core<V>, shelf: u8, label: Label) -> Reply<V>
     requires { CoreSaysYes V.model V.means (node_call shelf label) core.old }
     ensures { CoreDoes V.model V.means (node_call shelf label) (reply_of V.model V.means result) core.old core.new }
 {
-    put_node(
-        core,
-        Place {
-            shelf: shelf as usize,
-        },
-        label,
-    );
+    put_node(core, place(shelf), label);
     Ok(Answer::Accepted(0))
 }
 
@@ -33,13 +39,7 @@ pub fn act_pause<V: Algebra>(core: &mut Core<V>, shelf: u8, label: Label) -> Rep
     requires { CoreSaysYes V.model V.means (pause_call shelf label) core.old }
     ensures { CoreDoes V.model V.means (pause_call shelf label) (reply_of V.model V.means result) core.old core.new }
 {
-    put_pause(
-        core,
-        Place {
-            shelf: shelf as usize,
-        },
-        label,
-    );
+    put_pause(core, place(shelf), label);
     Ok(Answer::Accepted(0))
 }
 
@@ -47,13 +47,7 @@ pub fn act_table<V: Algebra>(core: &mut Core<V>, shelf: u8, arcs: &[Arc]) -> Rep
     requires { CoreSaysYes V.model V.means (table_call shelf arcs.now) core.old }
     ensures { CoreDoes V.model V.means (table_call shelf arcs.now) (reply_of V.model V.means result) core.old core.new }
 {
-    let number = put_table(
-        core,
-        Place {
-            shelf: shelf as usize,
-        },
-        arcs,
-    )?;
+    let number = put_table(core, place(shelf), arcs)?;
     Ok(Answer::Accepted(number))
 }
 
@@ -61,10 +55,8 @@ pub fn act_loop<V: Algebra>(core: &mut Core<V>, shelf: u8) -> Reply<V>
     requires { CoreSaysYes V.model V.means (loop_call shelf) core.old }
     ensures { CoreDoes V.model V.means (loop_call shelf) (reply_of V.model V.means result) core.old core.new }
 {
-    let place = Place {
-        shelf: shelf as usize,
-    };
-    let i = core.shelves.at(place.shelf).step.unwrap_or(0);
+    let place = place(shelf);
+    let i = core.shelves.at(place.shelf).step.unwrap();
     let number = put_loop(core, place, i)?;
     Ok(Answer::Accepted(number))
 }
@@ -73,12 +65,7 @@ pub fn act_clear<V: Algebra>(core: &mut Core<V>, shelf: u8) -> Reply<V>
     requires { CoreSaysYes V.model V.means (clear_call shelf) core.old }
     ensures { CoreDoes V.model V.means (clear_call shelf) (reply_of V.model V.means result) core.old core.new }
 {
-    empty(
-        core,
-        Place {
-            shelf: shelf as usize,
-        },
-    );
+    empty(core, place(shelf));
     Ok(Answer::Accepted(0))
 }
 
@@ -87,12 +74,7 @@ pub fn shelf_report<V: Algebra>(core: &Core<V>, shelf: u8) -> Report<V>
     requires { CoreSaysYes V.model V.means (report_call shelf) core.now }
     ensures { CoreDoes V.model V.means (report_call shelf) (reported (report_of V.model V.means result)) core.now core.now }
 {
-    let shown = piece(
-        &core.shelves,
-        Place {
-            shelf: shelf as usize,
-        },
-    );
+    let shown = piece(&core.shelves, place(shelf));
     report(&core.cells.kept(), shown)
 }
 
@@ -107,14 +89,10 @@ pub fn act_pair<V: Algebra>(core: &mut Core<V>, kind: Pairing, first: u8, second
     requires { CoreSaysYes V.model V.means (pair_call kind first second) core.old }
     ensures { CoreDoes V.model V.means (pair_call kind first second) (reply_of V.model V.means result) core.old core.new }
 {
-    let a = Place {
-        shelf: first as usize,
-    };
-    let b = Place {
-        shelf: second as usize,
-    };
-    let i = core.shelves.at(a.shelf).step.unwrap_or(0);
-    let j = core.shelves.at(b.shelf).step.unwrap_or(0);
+    let a = place(first);
+    let b = place(second);
+    let i = core.shelves.at(a.shelf).step.unwrap();
+    let j = core.shelves.at(b.shelf).step.unwrap();
     let number = put_pair(core, kind, a, b, i, j)?;
     empty(core, b);
     Ok(Answer::Accepted(number))

@@ -3,10 +3,8 @@ ghost use Rattle.std.specs.Prelude.{◌≡◌, ◌+◌, ◌*◌, true, false, no
 ghost use Rattle.std.specs.List.{AllByRecursion};
 ghost use Rattle.rows.specs.Pieces.{meanings};
 ghost use Rattle.shelves.specs.Calls.{about};
-ghost use Rattle.shelves.specs.Cores.{CoreSaysYes};
-ghost use Rattle.shelves.specs.Held.{call_of, state_of};
-ghost use Rattle.shelves.specs.Questions.{Yes, FirstNo};
-ghost use Rattle.shelves.specs.Refusals.{early};
+ghost use Rattle.shelves.specs.Cores.{CoreSaysYes, CoreSaysNo};
+ghost use Rattle.shelves.specs.Held.{call_of};
 
 use crate::call::Call;
 use crate::core_state::Core;
@@ -47,7 +45,7 @@ fn ask(yes: bool, no: Refusal) -> Result<(), Refusal>
 
 // The first no among the questions that come before unrolling.
 pub fn first_no<V: Algebra>(core: &Core<V>, call: Call) -> Result<(), Refusal>
-    ensures { MatchResult result (λ _. CoreSaysYes V.model V.means (call_of call.entry) core.now) (λ no. FirstNo (Yes V.model (state_of V.model V.means core.now) (call_of call.entry)) early no) }
+    ensures { MatchResult result (λ _. CoreSaysYes V.model V.means (call_of call.entry) core.now) (λ no. CoreSaysNo V.model V.means (call_of call.entry) core.now no) }
 {
     ask(numbered(call), Refusal::NoShelf)?;
     ask(apart(call), Refusal::SameShelf)?;

@@ -1,11 +1,9 @@
-// Building: what an accepted call does to what a rack holds. A rule or a shelf stands beside the states in each clause, so
-// they are named as they are.
+// Building: what an accepted call does to what a rack holds.
 ghost use Rattle.std.specs.Prelude.{◌≡◌, ◌<◌, [], ◌∷◌, ◌++◌, length, take, set, Some as present};
 ghost use Rattle.rows.specs.Pieces.{meanings};
 ghost use Rattle.runs.specs.declared.step.Step.TheVariants.{Node as node_step, Pause as pause_step};
-ghost use Rattle.shelves.specs.Effects.{Puts, Empties, node_row, pause_row};
-ghost use Rattle.shelves.specs.Held.{state_of};
-ghost use Rattle.shelves.specs.Stops.{Built};
+ghost use Rattle.shelves.specs.Cores.{CorePuts, CoreEmpties, CoreBuilt};
+ghost use Rattle.shelves.specs.Effects.{node_row, pause_row};
 ghost use Rattle.shelves.specs.Tables.{shelves_of};
 
 use crate::core_state::Core;
@@ -43,7 +41,7 @@ fn settle<V: Algebra>(core: &mut Core<V>, place: Place, shape: Shape, step: Step
 // Puts a node's rows on a shelf and records its step. A pause differs in the rows written too, so it has its own function.
 pub fn put_node<V: Algebra>(core: &mut Core<V>, place: Place, label: Label)
     requires { length core.old.steps.items < 512 }
-    ensures { Puts V.model (node_row V.model label) place.shelf (node_step label) [] (state_of V.model V.means core.old) (state_of V.model V.means core.new) }
+    ensures { CorePuts V.model V.means (node_row V.model label) place.shelf (node_step label) [] core.old core.new }
 {
     write_node(&mut core.cells, place, label);
     settle(
@@ -60,7 +58,7 @@ pub fn put_node<V: Algebra>(core: &mut Core<V>, place: Place, label: Label)
 // Puts a pause's rows on a shelf and records its step.
 pub fn put_pause<V: Algebra>(core: &mut Core<V>, place: Place, label: Label)
     requires { length core.old.steps.items < 512 }
-    ensures { Puts V.model (pause_row V.model label) place.shelf (pause_step label) [] (state_of V.model V.means core.old) (state_of V.model V.means core.new) }
+    ensures { CorePuts V.model V.means (pause_row V.model label) place.shelf (pause_step label) [] core.old core.new }
 {
     write_pause(&mut core.cells, place, label);
     settle(
@@ -76,7 +74,7 @@ pub fn put_pause<V: Algebra>(core: &mut Core<V>, place: Place, label: Label)
 
 // Empties a shelf.
 pub fn empty<V: Algebra>(core: &mut Core<V>, place: Place)
-    ensures { Empties V.model place.shelf (state_of V.model V.means core.old) (state_of V.model V.means core.new) }
+    ensures { CoreEmpties V.model V.means place.shelf core.old core.new }
 {
     blank(&mut core.cells, place);
     core.shelves.put(place, Shelf::empty());
@@ -90,7 +88,7 @@ pub fn build<R: RowRule, V: Algebra>(
     step: Step,
 ) -> Result<usize, Refusal>
     requires { length core.old.steps.items < 512 }
-    ensures does { Built V.Algebra.model (R.RowRule.works rule.now V.Algebra.model (meanings V.Algebra.means (take 2048 core.old.cells.lent.now))) place.shelf step [] (state_of V.Algebra.model V.Algebra.means core.old) (state_of V.Algebra.model V.Algebra.means core.new) result }
+    ensures does { CoreBuilt V.Algebra.model V.Algebra.means (R.RowRule.works rule.now V.Algebra.model (meanings V.Algebra.means (take 2048 core.old.cells.lent.now))) place.shelf step [] core.old core.new result }
     ensures arcs { core.new.arcs ≡ core.old.arcs }
 {
     let unrolled = unroll(rule, &mut core.cells, place)?;

@@ -3,11 +3,10 @@ ghost use Rattle.std.specs.Prelude.{◌≡◌, ◌+◌, ◌<◌, ◌≤◌, [], 
 ghost use Rattle.rows.specs.Rules.Loop.{loop as loop_rule};
 ghost use Rattle.rows.specs.Rules.Table.{table as table_rule};
 ghost use Rattle.runs.specs.declared.step.Step.TheVariants.{Repeat as loop_step, Table as table_step};
+ghost use Rattle.shelves.specs.Cores.{CoreBuilt, core_rows};
 ghost use Rattle.shelves.specs.Effects.{pair_step};
-ghost use Rattle.shelves.specs.Held.{state_of};
 ghost use Rattle.shelves.specs.Questions.{pair_rule};
-ghost use Rattle.shelves.specs.State.{shelf_rows, empty_shelf};
-ghost use Rattle.shelves.specs.Stops.{Built};
+ghost use Rattle.shelves.specs.State.{empty_shelf};
 ghost use Rattle.shelves.specs.Tables.{shelves_of};
 
 use crate::building::build;
@@ -42,7 +41,7 @@ pub fn piece(shelves: &Shelves, place: Place) -> Piece
 // A loop of the piece on a shelf, whose step is i.
 pub fn put_loop<V: Algebra>(core: &mut Core<V>, place: Place, i: usize) -> Result<usize, Refusal>
     requires { length core.old.steps.items < 512 }
-    ensures { Built V.model (loop_rule V.model (shelf_rows (state_of V.model V.means core.old) place.shelf)) place.shelf (loop_step i) [] (state_of V.model V.means core.old) (state_of V.model V.means core.new) result }
+    ensures { CoreBuilt V.model V.means (loop_rule V.model (core_rows V.model V.means core.old place.shelf)) place.shelf (loop_step i) [] core.old core.new result }
 {
     let a = piece(&core.shelves, place);
     build(core, &Repeat { a }, place, Step::Repeat { of: i })
@@ -58,7 +57,7 @@ pub fn put_pair<V: Algebra>(
     j: usize,
 ) -> Result<usize, Refusal>
     requires { length core.old.steps.items < 512 }
-    ensures { Built V.model (pair_rule V.model kind (shelf_rows (state_of V.model V.means core.old) first.shelf) (shelf_rows (state_of V.model V.means core.old) second.shelf)) first.shelf (pair_step kind i j) [] (state_of V.model V.means core.old) (state_of V.model V.means core.new) result }
+    ensures { CoreBuilt V.model V.means (pair_rule V.model kind (core_rows V.model V.means core.old first.shelf) (core_rows V.model V.means core.old second.shelf)) first.shelf (pair_step kind i j) [] core.old core.new result }
 {
     let a = piece(&core.shelves, first);
     let b = piece(&core.shelves, second);
@@ -110,7 +109,7 @@ pub fn put_table<V: Algebra>(
     arcs: &[Arc],
 ) -> Result<usize, Refusal>
     requires { (length core.old.steps.items < 512) × (length core.old.arcs.items + length arcs.now ≤ 512) }
-    ensures { Built V.model (table_rule V.model arcs.now) place.shelf (table_step (length (state_of V.model V.means core.old).arcs) (length arcs.now)) arcs.now (state_of V.model V.means core.old) (state_of V.model V.means core.new) result }
+    ensures { CoreBuilt V.model V.means (table_rule V.model arcs.now) place.shelf (table_step (length core.old.arcs.items) (length arcs.now)) arcs.now core.old core.new result }
 {
     let step = Step::Table {
         first: core.arcs.len(),

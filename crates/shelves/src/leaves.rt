@@ -1,8 +1,8 @@
 // The rows of a leaf, and none, written on a shelf.
-ghost use Rattle.std.specs.Prelude.{◌≡◌, ℕ, ◌<◌, take, drop, None as absent, slice_index_or};
+ghost use Rattle.std.specs.Prelude.{take};
 ghost use Rattle.rows.specs.Pieces.{meanings};
 ghost use Rattle.rows.specs.Unrolled.{Keeps};
-ghost use Rattle.shelves.specs.Effects.{OfShelf, Blank, node_row, pause_row};
+ghost use Rattle.shelves.specs.Effects.{Blank, OnlyShelf, node_row, pause_row};
 
 use algebra::algebra::Algebra;
 use algebra::label::Label;
@@ -12,8 +12,7 @@ use rows::place::Place;
 // A node: its weight on exit at tick 0.
 pub fn write_node<V: Algebra>(cells: &mut Cells<V>, place: Place, label: Label)
     ensures keeps { Keeps V.model (node_row V.model label) place.shelf 1 1 (meanings V.means (take 2048 cells.new.lent.now)) }
-    ensures others { (j : ℕ) → j < 2048 → (OfShelf place.shelf j → ⊥) → slice_index_or cells.new.lent.now j absent ≡ slice_index_or cells.old.lent.now j absent }
-    ensures past { drop 4096 cells.new.lent.now ≡ drop 4096 cells.old.lent.now }
+    ensures only { OnlyShelf place.shelf cells.old.lent.now cells.new.lent.now }
 {
     cells.note(0, None, Some(V::weigh(label)));
     cells.note(1, None, None);
@@ -23,8 +22,7 @@ pub fn write_node<V: Algebra>(cells: &mut Cells<V>, place: Place, label: Label)
 // A pause: its weight on pause at tick 0, and the unit on exit at tick 1.
 pub fn write_pause<V: Algebra>(cells: &mut Cells<V>, place: Place, label: Label)
     ensures keeps { Keeps V.model (pause_row V.model label) place.shelf 2 1 (meanings V.means (take 2048 cells.new.lent.now)) }
-    ensures others { (j : ℕ) → j < 2048 → (OfShelf place.shelf j → ⊥) → slice_index_or cells.new.lent.now j absent ≡ slice_index_or cells.old.lent.now j absent }
-    ensures past { drop 4096 cells.new.lent.now ≡ drop 4096 cells.old.lent.now }
+    ensures only { OnlyShelf place.shelf cells.old.lent.now cells.new.lent.now }
 {
     cells.note(0, Some(V::weigh(label)), None);
     cells.note(1, None, Some(V::unit()));
@@ -35,8 +33,7 @@ pub fn write_pause<V: Algebra>(cells: &mut Cells<V>, place: Place, label: Label)
 // No rows: every cell of the shelf is absent.
 pub fn blank<V: Algebra>(cells: &mut Cells<V>, place: Place)
     ensures blank { Blank V.model place.shelf (meanings V.means (take 2048 cells.new.lent.now)) }
-    ensures others { (j : ℕ) → j < 2048 → (OfShelf place.shelf j → ⊥) → slice_index_or cells.new.lent.now j absent ≡ slice_index_or cells.old.lent.now j absent }
-    ensures past { drop 4096 cells.new.lent.now ≡ drop 4096 cells.old.lent.now }
+    ensures only { OnlyShelf place.shelf cells.old.lent.now cells.new.lent.now }
 {
     cells.fill(place, 0);
 }

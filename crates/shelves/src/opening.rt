@@ -14,7 +14,8 @@ pub fn enough<V: Algebra>(cells: &[Option<V>]) -> bool
     cells.len() >= 4096
 }
 
-// Opens over lent cells, the slice that `enough` was asked of: those past the first 4,096 are untouched. The history begins.
+// Opens over lent cells: those past the first 4,096 are untouched. The history begins. It takes the slice itself, of which
+// `enough` was asked, since a `Cells` would have a caller bring more than that answer.
 pub fn open<'a, V: Algebra>(cells: &'a mut [Option<V>]) -> Core<'a, V>
     requires { 4096 ≤ length cells.old }
     ensures blank { (j : ℕ) → j < 4096 → slice_index_or result.cells.lent.now j absent ≡ absent }

@@ -1,4 +1,5 @@
-// The questions of a call, one function each. A match names the calls that a question concerns, and the others are yes.
+// The questions of a call, one function each, as each decides a clause of its own. A match names the calls that a question
+// concerns, and the others are yes. A call's shelf is any byte and no `Place`, since nothing is asked of it before.
 ghost use Rattle.std.specs.Prelude.{◌≡◌, ℕ, ◌+◌, ◌<◌, ◌≤◌, true, false, length, is_some, Decides, slice_index_or};
 ghost use Rattle.std.specs.List.{AllByRecursion};
 ghost use Rattle.shelves.specs.Calls.{about, named};

@@ -1,4 +1,4 @@
-use Rattle.std.proofs.Common.{ℕ, [], ◌∷◌, Some, Option, unwrap_or, sym, ap, ◌∙◌}
+use Rattle.std.proofs.Common.{[], ◌∷◌, sym, ap, ◌∙◌}
 use Rattle.std.proofs.lemmas.Result.{err_from_is_err_and}
 use Rattle.rows.specs.Rules.Loop as loop_rule
 use Rattle.shelves.specs.declared.refusal.Refusal.TheVariants.{NeverRepeats, TooLong}
@@ -6,8 +6,8 @@ use Rattle.shelves.specs.Calls.{loop}
 use Rattle.shelves.specs.Held.{state_of}
 use Rattle.shelves.specs.Questions.{Yes}
 use Rattle.shelves.specs.Refusals.{early}
-use Rattle.shelves.specs.State.{ShelfState, shelf_rows, shelf_at}
-use Rattle.shelves.proofs.Asking.{all_then, no_after, stop_no, there}
+use Rattle.shelves.specs.State.{ShelfState, shelf_rows}
+use Rattle.shelves.proofs.Asking.{all_then, no_after, stop_no}
 use Rattle.shelves.proofs.acting.act_loop.Goals as goal
 
 pub returns-in_err-number : goal.returns-in_err-number
@@ -16,17 +16,16 @@ returns-in_err-number g c =
     let s = state_of m g.V.Algebra.means c.args.core.now in
     let p = err_from_is_err_and c.from_residual.result c.from_residual.ensures.1 in
     let no = c.in_err-number.field-0.0 in
-    let found = c.in_err-number.ensures in
+    let found = rw c.place-place.ensures at c.in_err-number.ensures in
     rw (p.1, p.2) (no_after (Yes m s (loop c.args.shelf)) early (NeverRepeats ∷ TooLong ∷ []) no c.requires (stop_no (loop_rule.loop m (shelf_rows s c.args.shelf)) no found.0), found.1)
 
 pub returns : goal.returns
 returns g c =
     let m = g.V.Algebra.model in
     let s = state_of m g.V.Algebra.means c.args.core.now in
-    let done = c.in_ok-number.ensures in
+    let done = rw c.place-place.ensures at c.in_ok-number.ensures in
     let puts = done.1 in
-    let at = ap (λ (x : ShelfState). x.step) c.at.ensures in
-    let holds = there (shelf_at s c.args.shelf).step c.requires.1.1.1.0.0 ∙ ap (λ (o : Option ℕ). Some (unwrap_or o 0)) (sym at) ∙ ap Some (sym c.unwrap_or-i.ensures) in (
+    let at = ap (λ (x : ShelfState). x.step) (rw c.place-place.ensures at c.at.ensures) in (
       all_then (Yes m s (loop c.args.shelf)) early (NeverRepeats ∷ TooLong ∷ []) c.requires (((c.in_ok-number.number, done.0.0, done.0.1), tt), (((puts.transient, puts.period, puts.keeps.least, puts.short), tt), tt)),
-      (done.0, (c.unwrap_or-i.result, holds, puts)),
+      (done.0, (c.unwrap-i.result, sym at ∙ c.unwrap-i.ensures, puts)),
     )

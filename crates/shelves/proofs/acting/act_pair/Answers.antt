@@ -1,12 +1,12 @@
-use Rattle.std.proofs.Common.{ℕ, [], ◌∷◌, Some, Option, unwrap_or, sym, ap, ◌∙◌}
+use Rattle.std.proofs.Common.{[], ◌∷◌, sym, ap, ◌∙◌}
 use Rattle.std.proofs.lemmas.Result.{err_from_is_err_and}
 use Rattle.shelves.specs.declared.refusal.Refusal.TheVariants.{NeverRepeats, TooLong}
 use Rattle.shelves.specs.Calls.{pair}
 use Rattle.shelves.specs.Held.{state_of}
 use Rattle.shelves.specs.Questions.{Yes, pair_rule}
 use Rattle.shelves.specs.Refusals.{early}
-use Rattle.shelves.specs.State.{ShelfState, shelf_rows, shelf_at}
-use Rattle.shelves.proofs.Asking.{all_then, no_after, stop_no, there}
+use Rattle.shelves.specs.State.{ShelfState, shelf_rows}
+use Rattle.shelves.proofs.Asking.{all_then, no_after, stop_no}
 use Rattle.shelves.proofs.acting.act_pair.Goals as goal
 
 pub returns-in_err-number : goal.returns-in_err-number
@@ -15,19 +15,19 @@ returns-in_err-number g c =
     let s = state_of m g.V.Algebra.means c.args.core.now in
     let p = err_from_is_err_and c.from_residual.result c.from_residual.ensures.1 in
     let no = c.in_err-number.field-0.0 in
-    let found = c.in_err-number.ensures in
+    let found = rw (c.place-a.ensures, c.place-b.ensures) at c.in_err-number.ensures in
     rw (p.1, p.2) (no_after (Yes m s (pair c.args.kind c.args.first c.args.second)) early (NeverRepeats ∷ TooLong ∷ []) no c.requires (stop_no (pair_rule m c.args.kind (shelf_rows s c.args.first) (shelf_rows s c.args.second)) no found.0), found.1)
 
 pub returns : goal.returns
 returns g c =
     let m = g.V.Algebra.model in
     let s = state_of m g.V.Algebra.means c.args.core.now in
-    let done = c.in_ok-number.ensures in
+    let done = rw (c.place-a.ensures, c.place-b.ensures) at c.in_ok-number.ensures in
     let puts = done.1 in
-    let at = ap (λ (x : ShelfState). x.step) c.at.ensures in
-    let at_2 = ap (λ (x : ShelfState). x.step) c.at-2.ensures in
-    let first = there (shelf_at s c.args.first).step c.requires.1.1.1.0.0 ∙ ap (λ (o : Option ℕ). Some (unwrap_or o 0)) (sym at) ∙ ap Some (sym c.unwrap_or-i.ensures) in
-    let second = there (shelf_at s c.args.second).step c.requires.1.1.1.0.1.0 ∙ ap (λ (o : Option ℕ). Some (unwrap_or o 0)) (sym at_2) ∙ ap Some (sym c.unwrap_or-j.ensures) in (
+    let at = ap (λ (x : ShelfState). x.step) (rw c.place-a.ensures at c.at.ensures) in
+    let at_2 = ap (λ (x : ShelfState). x.step) (rw c.place-b.ensures at c.at-2.ensures) in
+    let first = sym at ∙ c.unwrap-i.ensures in
+    let second = sym at_2 ∙ c.unwrap-j.ensures in (
       all_then (Yes m s (pair c.args.kind c.args.first c.args.second)) early (NeverRepeats ∷ TooLong ∷ []) c.requires (((c.in_ok-number.number, done.0.0, done.0.1), tt), (((puts.transient, puts.period, puts.keeps.least, puts.short), tt), tt)),
-      (done.0, (c.unwrap_or-i.result, c.unwrap_or-j.result, state_of m g.V.Algebra.means c.put_pair.new.core, first, second, puts, c.empty.ensures)),
+      (done.0, (c.unwrap-i.result, c.unwrap-j.result, state_of m g.V.Algebra.means c.put_pair.new.core, first, second, puts, rw c.place-b.ensures at c.empty.ensures)),
     )

@@ -6,7 +6,7 @@ use Rattle.shelves.specs.Calls.{table}
 use Rattle.shelves.specs.Held.{state_of}
 use Rattle.shelves.specs.Questions.{Yes}
 use Rattle.shelves.specs.Refusals.{early}
-use Rattle.shelves.proofs.Asking.{no_after, stop_no}
+use Rattle.shelves.proofs.Asking.{all_then, no_after, stop_no}
 use Rattle.shelves.proofs.acting.act_table.Goals as goal
 
 pub returns-in_err-number : goal.returns-in_err-number
@@ -17,3 +17,13 @@ returns-in_err-number g c =
     let no = c.in_err-number.field-0.0 in
     let found = c.in_err-number.ensures in
     rw (p.1, p.2) (no_after (Yes m s (table c.args.shelf c.args.arcs.now)) early (NeverRepeats ∷ TooLong ∷ []) no c.requires (stop_no (table_rule.table m c.args.arcs.now) no found.0), found.1)
+
+pub returns : goal.returns
+returns g c =
+    let m = g.V.Algebra.model in
+    let s = state_of m g.V.Algebra.means c.args.core.now in
+    let done = rw c.place.ensures at c.in_ok-number.ensures in
+    let puts = done.1 in (
+      all_then (Yes m s (table c.args.shelf c.args.arcs.now)) early (NeverRepeats ∷ TooLong ∷ []) c.requires (((c.in_ok-number.number, done.0.0, done.0.1), tt), (((puts.transient, puts.period, puts.keeps.least, puts.short), tt), tt)),
+      done,
+    )

@@ -9,7 +9,7 @@ returns g c =
     let core = c.args.core.now in
     record {
       blank = c.blank.ensures.blank;
-      others = others_mean g.V.Algebra.means (OfShelf c.args.place.shelf) core.cells.lent.now c.blank.new.cells.lent.now c.blank.ensures.others;
+      others = others_mean g.V.Algebra.means (OfShelf c.args.place.shelf) core.cells.lent.now c.blank.new.cells.lent.now c.blank.ensures.only.others;
       shelves = c.put.ensures ∙ ap (set (shelves_of core.shelves) c.args.place.shelf) c.empty.ensures;
       steps = refl;
       arcs = refl;

@@ -19,7 +19,7 @@ returns g c =
       short = omega arith;
       keeps = subst (λ xs. Keeps m (pause_row m c.args.label) c.args.place.shelf 2 1 (meanings f (take 2048 xs))) (sym is) c.write_pause.ensures.keeps;
       others = others_mean f (OfShelf c.args.place.shelf) core.cells.lent.now after.cells.lent.now
-          (λ j less out. ap (λ xs. get_or xs j None) is ∙ c.write_pause.ensures.others j less out);
+          (λ j less out. ap (λ xs. get_or xs j None) is ∙ c.write_pause.ensures.only.others j less out);
       shelves = c.settle.ensures.shelves;
       steps = c.settle.ensures.steps;
       arcs = ap (λ a. a.items) c.settle.ensures.arcs ∙ sym (append-nil core.arcs.items);

@@ -1,7 +1,7 @@
 use Rattle.std.proofs.Common.{refl, ap, ◌∙◌, arith}
 use Rattle.std.specs.Option.{option_map}
 use Rattle.rows.proofs.Unrolling.{means_below, means_at}
-use Rattle.shelves.proofs.LeafRows.{fill_others, fill_past, filled_blank}
+use Rattle.shelves.proofs.LeafRows.{fill_only, filled_blank}
 use Rattle.shelves.proofs.leaves.blank.Goals as goal
 
 pub returns : goal.returns
@@ -12,6 +12,5 @@ returns g c =
     let f = g.V.Algebra.means in
     record {
       blank = λ j of. means_below f after 2048 j (omega arith) ∙ means_at f after j ∙ ap (option_map f) (filled_blank cells after k c.fill.ensures j of);
-      others = fill_others cells cells after k 0 c.fill.ensures c.args.place.within refl;
-      past = fill_past cells cells after k 0 c.fill.ensures c.args.place.within refl;
+      only = fill_only cells cells after k 0 c.fill.ensures c.args.place.within refl refl;
     }

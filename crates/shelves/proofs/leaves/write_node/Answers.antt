@@ -1,6 +1,6 @@
 use Rattle.std.proofs.Common.{Some, None, refl, arith}
 use Rattle.shelves.specs.Effects.{node_row}
-use Rattle.shelves.proofs.LeafRows.{node_shape, noting_none, noting_more, noting_kept, fill_others, fill_past}
+use Rattle.shelves.proofs.LeafRows.{node_shape, noting_none, noting_more, noting_kept, fill_only}
 use Rattle.shelves.proofs.leaves.write_node.Goals as goal
 
 pub returns : goal.returns
@@ -13,6 +13,5 @@ returns g c =
     let two = noting_more m f row cells 1 c.note.new.self.lent.now c.note-2.new.self.lent.now _ _ c.args.cells.now.room (omega arith) one c.note-2.ensures refl in
     record {
       keeps = noting_kept m f row cells 1 1 c.note-2.new.self.lent.now c.fill.new.self.lent.now c.args.place.shelf c.args.cells.now.room c.args.place.within (omega arith) two c.fill.ensures (node_shape m c.args.label);
-      others = fill_others cells c.note-2.new.self.lent.now c.fill.new.self.lent.now c.args.place.shelf 2 c.fill.ensures c.args.place.within two.below;
-      past = fill_past cells c.note-2.new.self.lent.now c.fill.new.self.lent.now c.args.place.shelf 2 c.fill.ensures c.args.place.within two.past;
+      only = fill_only cells c.note-2.new.self.lent.now c.fill.new.self.lent.now c.args.place.shelf 2 c.fill.ensures c.args.place.within two.below two.past;
     }

@@ -1,6 +1,6 @@
 use Rattle.std.proofs.Common.{Some, None, refl, arith}
 use Rattle.shelves.specs.Effects.{pause_row}
-use Rattle.shelves.proofs.LeafRows.{pause_shape, noting_none, noting_more, noting_kept, fill_others, fill_past}
+use Rattle.shelves.proofs.LeafRows.{pause_shape, noting_none, noting_more, noting_kept, fill_only}
 use Rattle.shelves.proofs.leaves.write_pause.Goals as goal
 
 pub returns : goal.returns
@@ -14,6 +14,5 @@ returns g c =
     let three = noting_more m f row cells 2 c.note-2.new.self.lent.now c.note-3.new.self.lent.now _ _ c.args.cells.now.room (omega arith) two c.note-3.ensures refl in
     record {
       keeps = noting_kept m f row cells 2 1 c.note-3.new.self.lent.now c.fill.new.self.lent.now c.args.place.shelf c.args.cells.now.room c.args.place.within (omega arith) three c.fill.ensures (pause_shape m c.args.label);
-      others = fill_others cells c.note-3.new.self.lent.now c.fill.new.self.lent.now c.args.place.shelf 3 c.fill.ensures c.args.place.within three.below;
-      past = fill_past cells c.note-3.new.self.lent.now c.fill.new.self.lent.now c.args.place.shelf 3 c.fill.ensures c.args.place.within three.past;
+      only = fill_only cells c.note-3.new.self.lent.now c.fill.new.self.lent.now c.args.place.shelf 3 c.fill.ensures c.args.place.within three.below three.past;
     }
