@@ -19,10 +19,7 @@ pub fn end<V: Algebra>(rack: &mut TicketRack<V>, ticket: Ticket)
     requires { NamesIn V.model V.means rack.old.core ticket }
     ensures { (other : Ticket) → other.shelf ≢ ticket.shelf → NamesIn V.model V.means rack.old.core other → NamesIn V.model V.means rack.new.core other }
 {
-    match rack.clear(ticket) {
-        Ok(_) => {}
-        Err(_back) => unreachable(),
-    }
+    rack.clear(ticket).unwrap();
 }
 
 // Forks two threads. Where that is refused, both are cleared.
@@ -37,12 +34,8 @@ fn fork<V: Algebra>(
     ensures answers { OnOk result ((n : ℕ) × CoreAnswers V.model V.means (pair kind.Fork first.shelf second.shelf) (accepted n) rack.old.core rack.new.core) }
 {
     match rack.fork(first, second) {
-        Ok(built) => {
-            let Built { ticket, number: _ } = built;
-            Ok(ticket)
-        }
-        Err(back) => {
-            let BothBack { first, second, why } = back;
+        Ok(Built { ticket, number: _ }) => Ok(ticket),
+        Err(BothBack { first, second, why }) => {
             end(rack, first);
             end(rack, second);
             Err(why)
@@ -59,19 +52,17 @@ pub fn build<V: Algebra>(
     ensures names { IfOk result (λ ticket. NamesIn V.model V.means rack.new.core ticket) }
     ensures plan { IfOk result (λ ticket. (h : List (Event V.model)) → Made V.model h (state_of V.model V.means rack.old.core) → HoldsPlan V.model (state_of V.model V.means rack.new.core) ticket.shelf (side_by_side sweep.now radar.now)) }
 {
-    let built = rack.table(0, sweep)?;
     let Built {
         ticket: first,
         number: _,
-    } = built;
+    } = rack.table(0, sweep)?;
     match rack.table(1, radar) {
-        Ok(built) => {
-            let Built {
+        Ok(
+            Built {
                 ticket: second,
                 number: _,
-            } = built;
-            fork(rack, first, second)
-        }
+            },
+        ) => fork(rack, first, second),
         Err(why) => {
             end(rack, first);
             Err(why)

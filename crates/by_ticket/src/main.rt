@@ -76,8 +76,7 @@ fn look<V: Algebra>(
 }
 
 fn main(rt: HostRuntime) -> io::Result<()> {
-    let mut cells = [None; 4096];
-    match look::<Worst>(&mut cells, &SWEEP, &RADAR) {
+    match look::<Worst>(&mut [None; 4096], &SWEEP, &RADAR) {
         Ok(report) => {
             let text = line(rt.alloc(), Ok(report))?;
             println!(rt; "{text}")

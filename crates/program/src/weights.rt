@@ -10,12 +10,8 @@ use algebra::arc::Arc;
 fn add_arcs<V: Algebra>(start: V, arcs: &[Arc]) -> V
     ensures { V.means result ≡ added V.model (V.means start) (map (λ a. a.label) arcs.now) }
 {
-    // A `for`, not a `fold`: a sum is known by its meaning alone, which an invariant says in a line.
-    let mut sum = start;
-    for arc in arcs {
-        sum = sum.add(V::weigh(arc.label));
-    }
-    sum
+    arcs.iter()
+        .fold(start, |sum, arc| sum.add(V::weigh(arc.label)))
 }
 
 fn add_labels<V: Algebra>(start: V, more: &Record) -> V
@@ -34,11 +30,7 @@ fn add_labels<V: Algebra>(start: V, more: &Record) -> V
 pub fn weight<V: Algebra>(records: &[Record]) -> V
     ensures { V.means result ≡ added V.model V.model.unit (all_labels records.now) }
 {
-    let mut sum = V::unit();
-    for item in records {
-        sum = add_labels(sum, item);
-    }
-    sum
+    records.iter().fold(V::unit(), add_labels)
 }
 
 fn label_count(of: &Record) -> usize

@@ -24,21 +24,22 @@ fn reads(
     Ok(())
 }
 
+// A record is whole with its last byte alone: each shorter beginning, but the empty one, is cut.
+fn cuts(rt: &impl Abort, heap: Global, record: &[u8]) -> Result<(), Fail> {
+    // counted, as a slice has no method that yields its beginnings
+    for n in 1..record.len() {
+        reads(rt, heap, &record[..n], 0, Some(Refusal::Cut))?;
+    }
+    reads(rt, heap, record, 1, None)
+}
+
 #[test]
 fn cut_short(rt: HostRuntime) -> Result<(), Fail> {
     let heap = rt.alloc();
-    let cut = Some(Refusal::Cut);
     reads(&rt, heap, &[], 0, None)?;
-    // n is how many bytes are left
-    for n in 1..NODE.len() {
-        reads(&rt, heap, &NODE[..n], 0, cut)?;
-    }
-    reads(&rt, heap, &NODE, 1, None)?;
-    for n in 1..TABLE.len() {
-        reads(&rt, heap, &TABLE[..n], 0, cut)?;
-    }
-    reads(&rt, heap, &TABLE, 1, None)?;
-    reads(&rt, heap, &[5, 0, 6, 0, 2, 5, 0, 6], 1, cut)
+    cuts(&rt, heap, &NODE)?;
+    cuts(&rt, heap, &TABLE)?;
+    reads(&rt, heap, &[5, 0, 6, 0, 2, 5, 0, 6], 1, Some(Refusal::Cut))
 }
 
 #[test]
@@ -75,10 +76,7 @@ fn large(rt: HostRuntime) -> Result<(), Fail> {
     let heap = rt.alloc();
     let mut bytes = Vec::new(heap);
     bytes.extend_from_slice(&NODE)?;
-    // so often, as a slice has no method that repeats it
-    for _ in 0..6551usize {
-        bytes.extend_from_slice(&LOOP)?;
-    }
+    bytes.extend_from_slice(LOOP.repeat(heap, 6551)?.as_slice())?;
     assert_eq!(rt; bytes.len(), 32_768);
     reads(&rt, heap, bytes.as_slice(), 6552, None)?;
     bytes.push(5)?;

@@ -1,8 +1,13 @@
-use Rattle.std.proofs.Common.{◌∙◌}
-use Rattle.program.proofs.Sums.{records_next}
+use Rattle.std.proofs.Common.{refl, ap, ◌∙◌, rules}
+use Rattle.std.proofs.lemmas.Iterator.{YieldsList-from_slice}
+use Rattle.program.specs.Entries.{entry}
+use Rattle.program.specs.Weights.{labels, all_labels, added}
+use Rattle.program.proofs.Sums.{added_over, labels_more}
 use Rattle.program.proofs.weights.weight.Goals as goal
 
-pub loop-item-preserved : goal.loop-item-preserved
-loop-item-preserved g c =
-    records_next g.V.Algebra.model _ _ c.args.records.now c.loop-item.item-index _ c.loop-item-test.true c.item-item.is c.add_labels-sum.ensures
-    ∙ c.loop-item.invariant
+pub returns : goal.returns
+returns g c =
+    let m = g.V.Algebra.model in
+    added_over m _ g.V.Algebra.means all_labels (λ r. labels (entry r)) _ _ c.fold.ensures.ran
+    (YieldsList-from_slice c.args.records.now cc) refl labels_more (λ a x b q k. search rules)
+    ∙ ap (λ x. added m x (all_labels c.args.records.now)) c.unit.ensures
