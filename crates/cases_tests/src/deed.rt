@@ -58,15 +58,6 @@ fn ring(states: u8) -> [Arc; 65] {
     })
 }
 
-// The first arcs of a list.
-fn first(arcs: &[Arc], count: usize) -> &[Arc] {
-    if count <= arcs.len() {
-        &arcs[0..count]
-    } else {
-        arcs
-    }
-}
-
 fn table<V: Algebra>(rack: &mut Rack<V>, shelf: u8, states: States) -> Result<usize, Refusal> {
     match states {
         States::Watch => rack.table(shelf, &[arc(0, 0, 6), arc(0, OUT, 20)]),
@@ -74,7 +65,10 @@ fn table<V: Algebra>(rack: &mut Rack<V>, shelf: u8, states: States) -> Result<us
             let arcs = [arc(0, 1, 5), arc(0, 2, 8), arc(1, 0, 3), arc(2, 0, 1)];
             rack.table(shelf, &arcs)
         }
-        States::Ring(count) => rack.table(shelf, first(&ring(count), count as usize)),
+        States::Ring(count) => {
+            let arcs = ring(count);
+            rack.table(shelf, &arcs[..arcs.len().min(count as usize)])
+        }
         States::Stuck => rack.table(shelf, &[arc(0, 1, 1)]),
         States::Loops => rack.table(shelf, &[arc(0, 0, 1); 512]),
     }

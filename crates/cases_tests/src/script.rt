@@ -7,6 +7,7 @@ use algebra::ports::Ports;
 use algebra::worst::Worst;
 use rack::rack::Rack;
 use shelves::opening::enough;
+use shelves::refusal::Refusal;
 use std::process::Abort;
 use std::test::*;
 
@@ -36,10 +37,21 @@ fn reports<V: Told>(
 ) -> Result<(), Fail> {
     let report = rack.report(shelf)?;
     assert_eq!(rt; (report.transient, report.period), shape);
-    match report.figure {
-        Some(figure) => figure.told(rt, report.tick, awaited),
-        None => return Err(Fail::new("no figure")),
-    }
+    let Some(figure) = report.figure else {
+        return Err(Fail::new("no figure"));
+    };
+    figure.told(rt, report.tick, awaited);
+    Ok(())
+}
+
+fn refused<T: Drop>(
+    rt: &impl Abort,
+    answer: Result<T, Refusal>,
+    number: u8,
+    place: usize,
+) -> Result<(), Fail> {
+    let why = answer.err().map(|why| why.number());
+    assert_eq!(rt; why, Some(number), "line {place}");
     Ok(())
 }
 
@@ -55,23 +67,11 @@ fn play<V: Told>(
             assert_eq!(rt; perform(rack, deed)?, number, "line {place}");
             Ok(())
         },
-        Line::Refused(deed, number) => match perform(rack, deed) {
-            Ok(_) => Err(Fail::new("done")),
-            Err(why) => {
-                assert_eq!(rt; why.number(), number, "line {place}");
-                Ok(())
-            },
-        },
+        Line::Refused(deed, number) => refused(rt, perform(rack, deed), number, place),
         Line::Report(shelf, worst, best, ports, shape) => {
             reports(rt, rack, shelf, Figures { worst, best, ports }, shape)
         }
-        Line::NoReport(shelf, number) => match rack.report(shelf) {
-            Ok(_) => Err(Fail::new("reported")),
-            Err(why) => {
-                assert_eq!(rt; why.number(), number, "line {place}");
-                Ok(())
-            },
-        },
+        Line::NoReport(shelf, number) => refused(rt, rack.report(shelf), number, place),
     }
 }
 
@@ -92,12 +92,8 @@ pub fn play_all<V: Told>(
 }
 
 pub fn under_each(rt: &impl Abort, script: &[Line]) -> Result<(), Fail> {
-    let mut worst: [Option<Worst>; 4096] = [None; 4096];
-    play_all(rt, &mut worst, script)?;
-    let mut best: [Option<Best>; 4096] = [None; 4096];
-    play_all(rt, &mut best, script)?;
-    let mut ports: [Option<Ports>; 4096] = [None; 4096];
-    play_all(rt, &mut ports, script)?;
-    let mut pair: [Option<Pair<Worst, Ports>>; 4096] = [None; 4096];
-    play_all(rt, &mut pair, script)
+    play_all::<Worst>(rt, &mut [None; 4096], script)?;
+    play_all::<Best>(rt, &mut [None; 4096], script)?;
+    play_all::<Ports>(rt, &mut [None; 4096], script)?;
+    play_all::<Pair<Worst, Ports>>(rt, &mut [None; 4096], script)
 }

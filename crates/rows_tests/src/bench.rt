@@ -9,6 +9,7 @@ use rows::place::Place;
 use rows::rule::RowRule;
 use rows::shape::Shape;
 use rows::unroll::unroll;
+use std::array;
 use std::process::Abort;
 use std::test::Fail;
 
@@ -83,6 +84,7 @@ pub fn ring<V: Algebra>(
     let place = place(rt, shelf);
     assert!(rt; period >= 1 && period <= 64);
     let from = 128 * place.shelf;
+    // a `for`, as `fill` asks that a clone cannot fail, which is not known of a type parameter's
     for cell in &mut cells.lent[from..from + period] {
         *cell = Some(V::unit());
     }
@@ -119,10 +121,5 @@ pub fn four<V: Figure>(cells: &Cells<V>, piece: Piece, row: Row) -> [Option<u32>
         Row::Pause => 128 * piece.place.shelf,
         Row::Exit => 128 * piece.place.shelf + 64,
     };
-    [
-        shown(cells.lent[from]),
-        shown(cells.lent[from + 1]),
-        shown(cells.lent[from + 2]),
-        shown(cells.lent[from + 3]),
-    ]
+    array::from_fn(|k| shown(cells.lent[from + k]))
 }

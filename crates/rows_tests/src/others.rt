@@ -61,10 +61,11 @@ fn under<V: Figure>(
 
 #[test]
 fn under_worst(rt: HostRuntime) -> Result<(), Fail> {
-    let mut room: [Option<Worst>; 4096] = [None; 4096];
-    under(
+    under::<Worst>(
         &rt,
-        &mut Cells { lent: &mut room },
+        &mut Cells {
+            lent: &mut [None; 4096],
+        },
         [Some(8), Some(3), None, None],
         [Some(10), Some(3), Some(8), None],
     )
@@ -72,10 +73,11 @@ fn under_worst(rt: HostRuntime) -> Result<(), Fail> {
 
 #[test]
 fn under_best(rt: HostRuntime) -> Result<(), Fail> {
-    let mut room: [Option<Best>; 4096] = [None; 4096];
-    under(
+    under::<Best>(
         &rt,
-        &mut Cells { lent: &mut room },
+        &mut Cells {
+            lent: &mut [None; 4096],
+        },
         [Some(5), Some(1), None, None],
         [Some(7), Some(1), Some(5), None],
     )
@@ -83,10 +85,11 @@ fn under_best(rt: HostRuntime) -> Result<(), Fail> {
 
 #[test]
 fn under_ports(rt: HostRuntime) -> Result<(), Fail> {
-    let mut room: [Option<Ports>; 4096] = [None; 4096];
-    under(
+    under::<Ports>(
         &rt,
-        &mut Cells { lent: &mut room },
+        &mut Cells {
+            lent: &mut [None; 4096],
+        },
         [Some(0b0011), Some(0b1100), None, None],
         [Some(0b10011), Some(0b1100), Some(0b0011), None],
     )
@@ -99,9 +102,10 @@ fn halves(cell: Option<Pair<Worst, Ports>>) -> Option<(u32, u32)> {
 
 #[test]
 fn under_the_pair(rt: HostRuntime) -> Result<(), Fail> {
-    let mut room: [Option<Pair<Worst, Ports>>; 4096] = [None; 4096];
-    let cells = &mut Cells { lent: &mut room };
-    let fork = beside(&rt, cells, 0)?;
+    let cells = &mut Cells {
+        lent: &mut [None; 4096],
+    };
+    let fork = beside::<Pair<Worst, Ports>>(&rt, cells, 0)?;
     assert_eq!(rt; fork.place.shelf, 0);
     assert_eq!(rt; halves(cells.lent[0]), Some((10, 0b10011)));
     assert_eq!(rt; halves(cells.lent[1]), Some((3, 0b1100)));
