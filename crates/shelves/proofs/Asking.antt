@@ -1,11 +1,15 @@
 -- The questions before unrolling and those of unrolling, put together.
 use Rattle.std.proofs.Common.{◌≡◌, ℕ, ◌+◌, ◌≤◌, ◌⊎◌, List, [], ◌∷◌, ◌++◌, refl, subst, inl, inr, arith}
+use Rattle.algebra.specs.declared.arc.Arc.{Arc}
 use Rattle.algebra.specs.Model.{Model}
 use Rattle.rows.specs.Repeats.{Repeats, LeastShape}
 use Rattle.rows.specs.Rules.Rule.{Rule, rows}
+use Rattle.runs.specs.declared.step.Step.{Step}
 use Rattle.shelves.specs.declared.refusal.Refusal.{Refusal}
 use Rattle.shelves.specs.declared.refusal.Refusal.TheVariants.{FewCells, NoShelf, SameShelf, ShelfTaken, ShelfEmpty, ManyCycles, BadArcs, StateWithoutArc, StepsFull, ArcsFull, LeavesAtOnce, NeverRepeats, TooLong}
+use Rattle.shelves.specs.Effects.{Puts, Turns}
 use Rattle.shelves.specs.Questions.{AllYes, FirstNo, RepeatsSoon, Short}
+use Rattle.shelves.specs.State.{State}
 use Rattle.shelves.specs.Stops.{Stopped}
 
 module _ (yes_to : Refusal → Type 0) where
@@ -60,3 +64,7 @@ stop_no rule StateWithoutArc h = absurd h
 stop_no rule StepsFull h = absurd h
 stop_no rule ArcsFull h = absurd h
 stop_no rule LeavesAtOnce h = absurd h
+
+-- what is unrolled and put on a shelf says yes to both questions of unrolling
+pub turn_yes : {m : Model} (rule : Rule m) (n k : ℕ) (step : Step) (more : List Arc) (s s' : State m) → Turns m rule n → Puts m (rows rule) k step more s s' → (RepeatsSoon rule × Unit {0}) × ((Short rule × Unit {0}) × Unit {0})
+turn_yes rule n k step more s s' turns puts = (((n, turns.0, turns.1), tt), (((puts.transient, puts.period, puts.keeps.least, puts.short), tt), tt))

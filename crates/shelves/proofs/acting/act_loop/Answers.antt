@@ -7,7 +7,7 @@ use Rattle.shelves.specs.Held.{state_of}
 use Rattle.shelves.specs.Questions.{Yes}
 use Rattle.shelves.specs.Refusals.{early}
 use Rattle.shelves.specs.State.{ShelfState, shelf_rows}
-use Rattle.shelves.proofs.Asking.{all_then, no_after, stop_no}
+use Rattle.shelves.proofs.Asking.{all_then, no_after, stop_no, turn_yes}
 use Rattle.shelves.proofs.acting.act_loop.Goals as goal
 
 pub returns-in_err-number : goal.returns-in_err-number
@@ -24,8 +24,7 @@ returns g c =
     let m = g.V.Algebra.model in
     let s = state_of m g.V.Algebra.means c.args.core.now in
     let done = rw c.place-place.ensures at c.in_ok-number.ensures in
-    let puts = done.1 in
     let at = ap (λ (x : ShelfState). x.step) (rw c.place-place.ensures at c.at.ensures) in (
-      all_then (Yes m s (loop c.args.shelf)) early (NeverRepeats ∷ TooLong ∷ []) c.requires (((c.in_ok-number.number, done.0.0, done.0.1), tt), (((puts.transient, puts.period, puts.keeps.least, puts.short), tt), tt)),
-      (done.0, (c.unwrap-i.result, sym at ∙ c.unwrap-i.ensures, puts)),
+      all_then (Yes m s (loop c.args.shelf)) early (NeverRepeats ∷ TooLong ∷ []) c.requires (turn_yes (loop_rule.loop m (shelf_rows s c.args.shelf)) _ _ _ _ _ _ done.0 done.1),
+      (done.0, (c.unwrap-i.result, sym at ∙ c.unwrap-i.ensures, done.1)),
     )

@@ -6,7 +6,7 @@ use Rattle.shelves.specs.Held.{state_of}
 use Rattle.shelves.specs.Questions.{Yes, pair_rule}
 use Rattle.shelves.specs.Refusals.{early}
 use Rattle.shelves.specs.State.{ShelfState, shelf_rows}
-use Rattle.shelves.proofs.Asking.{all_then, no_after, stop_no}
+use Rattle.shelves.proofs.Asking.{all_then, no_after, stop_no, turn_yes}
 use Rattle.shelves.proofs.acting.act_pair.Goals as goal
 
 pub returns-in_err-number : goal.returns-in_err-number
@@ -23,11 +23,10 @@ returns g c =
     let m = g.V.Algebra.model in
     let s = state_of m g.V.Algebra.means c.args.core.now in
     let done = rw (c.place-a.ensures, c.place-b.ensures) at c.in_ok-number.ensures in
-    let puts = done.1 in
     let at = ap (λ (x : ShelfState). x.step) (rw c.place-a.ensures at c.at.ensures) in
     let at_2 = ap (λ (x : ShelfState). x.step) (rw c.place-b.ensures at c.at-2.ensures) in
     let first = sym at ∙ c.unwrap-i.ensures in
     let second = sym at_2 ∙ c.unwrap-j.ensures in (
-      all_then (Yes m s (pair c.args.kind c.args.first c.args.second)) early (NeverRepeats ∷ TooLong ∷ []) c.requires (((c.in_ok-number.number, done.0.0, done.0.1), tt), (((puts.transient, puts.period, puts.keeps.least, puts.short), tt), tt)),
-      (done.0, (c.unwrap-i.result, c.unwrap-j.result, state_of m g.V.Algebra.means c.put_pair.new.core, first, second, puts, rw c.place-b.ensures at c.empty.ensures)),
+      all_then (Yes m s (pair c.args.kind c.args.first c.args.second)) early (NeverRepeats ∷ TooLong ∷ []) c.requires (turn_yes (pair_rule m c.args.kind (shelf_rows s c.args.first) (shelf_rows s c.args.second)) _ _ _ _ _ _ done.0 done.1),
+      (done.0, (c.unwrap-i.result, c.unwrap-j.result, state_of m g.V.Algebra.means c.put_pair.new.core, first, second, done.1, rw c.place-b.ensures at c.empty.ensures)),
     )

@@ -6,7 +6,7 @@ use Rattle.shelves.specs.Calls.{table}
 use Rattle.shelves.specs.Held.{state_of}
 use Rattle.shelves.specs.Questions.{Yes}
 use Rattle.shelves.specs.Refusals.{early}
-use Rattle.shelves.proofs.Asking.{all_then, no_after, stop_no}
+use Rattle.shelves.proofs.Asking.{all_then, no_after, stop_no, turn_yes}
 use Rattle.shelves.proofs.acting.act_table.Goals as goal
 
 pub returns-in_err-number : goal.returns-in_err-number
@@ -22,8 +22,7 @@ pub returns : goal.returns
 returns g c =
     let m = g.V.Algebra.model in
     let s = state_of m g.V.Algebra.means c.args.core.now in
-    let done = rw c.place.ensures at c.in_ok-number.ensures in
-    let puts = done.1 in (
-      all_then (Yes m s (table c.args.shelf c.args.arcs.now)) early (NeverRepeats ∷ TooLong ∷ []) c.requires (((c.in_ok-number.number, done.0.0, done.0.1), tt), (((puts.transient, puts.period, puts.keeps.least, puts.short), tt), tt)),
+    let done = rw c.place.ensures at c.in_ok-number.ensures in (
+      all_then (Yes m s (table c.args.shelf c.args.arcs.now)) early (NeverRepeats ∷ TooLong ∷ []) c.requires (turn_yes (table_rule.table m c.args.arcs.now) _ _ _ _ _ _ done.0 done.1),
       done,
     )
