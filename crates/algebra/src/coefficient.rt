@@ -21,18 +21,14 @@ pub fn join<V: Algebra>(a: Option<V>, b: Option<V>) -> Option<V>
 pub fn add<V: Algebra>(a: Option<V>, b: Option<V>) -> Option<V>
     ensures { option_map V.means result ≡ added V.model (option_map V.means a) (option_map V.means b) }
 {
-    match (a, b) {
-        (None, _) => None,
-        (Some(_), None) => None,
-        (Some(x), Some(y)) => Some(x.add(y)),
-    }
+    Some(a?.add(b?))
 }
 
 // The unit where the mark is set, else absent.
 pub fn mark<V: Algebra>(set: bool) -> Option<V>
     ensures { option_map V.means result ≡ marked V.model set }
 {
-    if set { Some(V::unit()) } else { None }
+    set.then_some(V::unit())
 }
 
 // Do the two mean the same? `==` compares values, and this says of what they mean that it may.

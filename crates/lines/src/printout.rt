@@ -11,7 +11,7 @@ use std::alloc::{AllocError, Global};
 pub fn printout(heap: Global, bytes: &[u8]) -> Result<String, AllocError>
     ensures { IfOk result (λ s. PrintoutOf bytes.now (string_bytes s)) }
 {
-    // each algebra's cells stand here, since the size of an array of a type parameter is not known
+    // lent from here, as a function of a type parameter would have to ask that its own array of cells fits in memory
     let worst = told::<Worst>(heap, bytes, &mut [None; 4096])?;
     let best = told::<Best>(heap, bytes, &mut [None; 4096])?;
     let ports = told::<Ports>(heap, bytes, &mut [None; 4096])?;
