@@ -1,4 +1,4 @@
-// The worst: the larger of two, the sum held at the top.
+// The worst: the larger of two, the sum held at the top. Beside it, best says why the two are two types.
 ghost use Rattle.std.specs.Prelude.{◌≤◌, Some};
 ghost use Rattle.algebra.specs.Words.{cycles_words};
 ghost use Rattle.algebra.specs.Models.{worst};

@@ -33,6 +33,7 @@ pub(crate) fn take_all<V: Algebra>(rack: &mut Rack<V>, records: &[Record]) -> Re
     ensures { CoreTook V.model V.means records.now rack.old.core rack.new.core result }
 {
     for (i, record) in records.iter().enumerate() {
+        // not map_err(..)?, after which the loop's goal stays open
         if let Err(found) = perform(rack, record) {
             return Err(Fault {
                 accepted: i,

@@ -8,6 +8,7 @@ use algebra::ports::Ports;
 use algebra::worst::Worst;
 use std::alloc::{AllocError, Global};
 
+// A text too, since it is what is printed.
 pub fn printout(heap: Global, bytes: &[u8]) -> Result<String, AllocError>
     ensures { IfOk result (λ s. PrintoutOf bytes.now (string_bytes s)) }
 {

@@ -7,7 +7,7 @@ use analyser::analyse::analyse;
 use shown::Shown;
 use std::alloc::{AllocError, Global};
 
-// The line of what the file comes to.
+// The line of what the file comes to, as a text, so that a contract can say all of it.
 pub fn told<V: Shown>(
     heap: Global,
     bytes: &[u8],

@@ -40,6 +40,7 @@ pub fn list(heap: Global, bytes: &[u8]) -> Result<Listing, AllocError>
                 records,
                 refusal: Some(why),
             }),
+            // the reader's want of memory is this function's
             Err(Fault::Memory) => return Err(AllocError),
         }
     }

@@ -1,4 +1,5 @@
-// What the tests work with: pieces written onto their shelves by hand, rules unrolled, rows read.
+// What the tests work with: pieces written onto their shelves by hand, rules unrolled, rows read. The cells and a shelf
+// are handed over as in the code that is tested.
 use algebra::algebra::Algebra;
 use algebra::best::Best;
 use algebra::ports::Ports;

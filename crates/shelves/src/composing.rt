@@ -1,4 +1,5 @@
-// Composing: a table, a loop, or two shelves put together, unrolled onto a shelf.
+// Composing: a table, a loop, or two shelves put together, unrolled onto a shelf. That there is room for a step is asked
+// for each time, since it is true of a moment and not of a type.
 ghost use Rattle.std.specs.Prelude.{◌≡◌, ◌+◌, ◌<◌, ◌≤◌, [], length, slice_index_or};
 ghost use Rattle.rows.specs.Rules.Loop.{loop as loop_rule};
 ghost use Rattle.rows.specs.Rules.Table.{table as table_rule};
