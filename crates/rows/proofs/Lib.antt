@@ -12,3 +12,4 @@ pub mod Shapes
 pub mod Backwards
 pub mod Unrolling
 pub mod Chaining
+pub mod Seeking

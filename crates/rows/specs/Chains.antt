@@ -1,30 +1,20 @@
--- Situations in chains by a small hash, so that one is found among those noted without a look at all of them.
-use Rattle.std.specs.Prelude.{◌≡◌, ℕ, zero, suc, ◌+◌, ◌*◌, ◌%◌, ◌<◌, false, cond, List, length, map, Option, Some, None, ◌==◌, slice_index_or}
-use Rattle.rows.specs.declared.noted.Noted.{Noted}
-use Rattle.rows.specs.declared.situation.Situation.{Situation}
-use Rattle.rows.specs.Rules.Rule.{situation}
+-- Numbers in chains by a key: from its newest number a chain goes down through all that have the key.
+use Rattle.std.specs.Prelude.{◌≡◌, ℕ, zero, suc, ◌<◌, cond, List, length, map, Option, Some, None, ◌==◌, slice_index, slice_index_or}
+use Rattle.rows.specs.declared.link.Link.{Link}
 
--- the chain of a situation, one of 256
-abbrev pub chain : Situation → ℕ
-chain s = (s.a % 64 + 37 * (s.b % 64) + s.set % 227) % 256
+-- the keys of the numbers from 0 on
+abbrev pub keys : List Link → List ℕ
+keys links = map (λ l. l.key) links
 
--- the situations noted, by their numbers
-abbrev pub situations : List Noted → List Situation
-situations noted = map (λ n. n.situation) noted
-
--- the situation noted with the number k
-abbrev pub nth : List Noted → ℕ → Situation
-nth noted k = slice_index_or (situations noted) k (situation 0 0 0 false false)
-
--- the newest number below n in the chain h
-abbrev pub newest : (noted : List Noted) (n h : ℕ) → Option ℕ
-newest noted zero h = None
-newest noted (suc n) h = cond (chain (nth noted n) == h) (Some n) (newest noted n h)
+-- the newest number below n with the key
+abbrev pub newest : (keys : List ℕ) (n key : ℕ) → Option ℕ
+newest keys zero key = None
+newest keys (suc n) key = cond (slice_index keys n == key) (Some n) (newest keys n key)
 
 -- each chain has its newest number
-abbrev pub Heads : (noted : List Noted) (heads : List (Option ℕ)) → Type 0
-Heads noted heads = (h : ℕ) → h < 256 → slice_index_or heads h None ≡ newest noted (length noted) h
+abbrev pub Heads : (links : List Link) (heads : List (Option ℕ)) → Type 0
+Heads links heads = (key : ℕ) → key < 256 → slice_index_or heads key None ≡ newest (keys links) (length links) key
 
 -- each number has the one before it in its chain
-abbrev pub Links : List Noted → Type 0
-Links noted = (i : ℕ) (d : Noted) → i < length noted → (slice_index_or noted i d).before ≡ newest noted i (chain (nth noted i))
+abbrev pub Links : List Link → Type 0
+Links links = (i : ℕ) (d : Link) → i < length links → (slice_index_or links i d).before ≡ newest (keys links) i (slice_index (keys links) i)

@@ -8,3 +8,4 @@ pub mod Filled
 pub mod Unrolled
 pub mod Outcomes
 pub mod Chains
+pub mod Situations

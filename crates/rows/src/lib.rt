@@ -3,11 +3,12 @@
 
 pub mod abort;
 pub mod cells;
+pub mod chains;
 pub mod choice;
 pub mod fill;
 pub mod fork;
 pub mod least;
-pub mod noted;
+pub mod link;
 pub mod outcome;
 pub mod phases;
 pub mod piece;

@@ -1,26 +1,24 @@
-// The situations of a walk, each with its number, linked in chains by a small hash.
-ghost use Rattle.std.specs.Prelude.{◌≡◌, ℕ, ◌<◌, [], ◌∷◌, ◌++◌, length, MatchOption};
-ghost use Rattle.rows.specs.Chains.{chain as chain_of, situations, nth, Heads, Links};
+// The situations of a walk, each with its number, in chains by a small hash.
+ghost use Rattle.std.specs.Prelude.{◌≡◌, ℕ, ◌<◌, [], ◌∷◌, ◌++◌, length, map, MatchOption};
+ghost use Rattle.rows.specs.Chains.{keys};
+ghost use Rattle.rows.specs.Situations.{chain as chain_of, nth};
 
-use crate::noted::Noted;
+use crate::chains::Chains;
 use crate::situation::Situation;
 use arrayvec::ArrayVec;
 
 #[derive(Drop)]
 pub struct Situations {
-    pub noted: ArrayVec<Noted, 1024>,
-    // the newest number of each chain; a map would need the heap, which a rack does not have
-    newest: [Option<u16>; 256],
-    ghost heads_long: { length newest ≡ 256 },
-    ghost headed: { Heads noted.items newest },
-    ghost linked: { Links noted.items },
+    pub noted: ArrayVec<Situation, 1024>,
+    chains: Chains,
+    ghost keyed: { keys chains.links.items ≡ map chain_of noted.items },
 }
 
 // The chain of a situation: any function of it would do, and this one spreads pairs of phases and sets of states.
-fn chain(s: Situation) -> usize
+fn chain(s: Situation) -> u8
     ensures { result ≡ chain_of s }
 {
-    (s.a % 64 + 37 * (s.b % 64) + (s.set % 227) as usize) % 256
+    ((s.a % 64 + 37 * (s.b % 64) + (s.set % 227) as usize) % 256) as u8
 }
 
 impl Situations {
@@ -29,7 +27,7 @@ impl Situations {
     {
         Situations {
             noted: ArrayVec::new(),
-            newest: [None; 256],
+            chains: Chains::new(),
         }
     }
 
@@ -37,28 +35,23 @@ impl Situations {
     pub fn find(&self, s: Situation) -> Option<usize>
         ensures { MatchOption result ((k : ℕ) → k < length self.now.noted.items → nth self.now.noted.items k ≡ s → ⊥) (λ i. (i < length self.now.noted.items) × (nth self.now.noted.items i ≡ s)) }
     {
-        let mut next = self.newest[chain(s)];
+        // along the chain, which is no list that could be gone over
+        let mut next = self.chains.head(chain(s));
         while let Some(number) = next {
             let k = number as usize;
-            let noted = self.noted[k];
-            if noted.situation == s {
+            if self.noted[k] == s {
                 return Some(k);
             }
-            next = noted.before;
+            next = self.chains.before(k);
         }
         None
     }
 
     pub fn push(&mut self, s: Situation)
         requires { length self.old.noted.items < 1024 }
-        ensures { situations self.new.noted.items ≡ situations self.old.noted.items ++ s ∷ [] }
+        ensures { self.new.noted.items ≡ self.old.noted.items ++ s ∷ [] }
     {
-        let h = chain(s);
-        let number = self.noted.len() as u16;
-        self.noted.push(Noted {
-            situation: s,
-            before: self.newest[h],
-        });
-        self.newest[h] = Some(number);
+        self.chains.push(chain(s));
+        self.noted.push(s);
     }
 }

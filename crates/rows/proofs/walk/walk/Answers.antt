@@ -1,9 +1,7 @@
-use Rattle.std.proofs.Common.{◌+◌, ◌<◌, ◌≤◌, List, length, take, drop, sym, refl, ap, ◌∙◌, subst, arith}
+use Rattle.std.proofs.Common.{◌+◌, ◌<◌, ◌≤◌, List, [], ◌∷◌, length, take, drop, sym, refl, ap, ◌∙◌, subst, arith, length-append}
 use Rattle.algebra.specs.Coefficients.{Coef}
 use Rattle.rows.specs.Pieces.{meanings}
 use Rattle.rows.specs.Search.{noted}
-use Rattle.rows.specs.Chains.{situations}
-use Rattle.rows.proofs.Chaining.{length-situations, count_more}
 use Rattle.rows.proofs.Walking.{Walked, walked_more, noted_now, noted_then, shelves_same, past_same}
 use Rattle.rows.proofs.walk.walk.Goals as goal
 
@@ -48,10 +46,10 @@ loop-n-preserved g c =
     let shelves = ap (meanings f) (c.kept.ensures ∙ same) in
     let few = c.loop-n-test.true in
     let count = c.loop-n.invariant.4 in
-    let items = situations c.loop-n.seen.noted.items in
+    let items = c.loop-n.seen.noted.items in
     let wrote = c.note.ensures in (
       subst (λ xs. Walked rule (n + 1) c.look-pause.result.next xs (meanings f c.note.new.self.lent.now)) (sym c.push.ensures)
-          (walked_more rule n c.loop-n.s c.look-pause.result.next items (meanings f cells) (meanings f c.note.new.self.lent.now) c.loop-n.invariant.0 (omega (arith, length-situations c.loop-n.seen.noted.items))
+          (walked_more rule n c.loop-n.s c.look-pause.result.next items (meanings f cells) (meanings f c.note.new.self.lent.now) c.loop-n.invariant.0 (sym count)
           (λ k less. c.in_default.ensures k (omega arith))
           (c.look-pause.ensures.next ∙ ap (λ cs. (over cs).next c.loop-n.s) shelves)
           (ap (λ xs. noted m (meanings f xs) n) wrote ∙ noted_now m f cells n p e room few
@@ -61,7 +59,7 @@ loop-n-preserved g c =
       c.look-pause.ensures.fits,
       ap (take 2048) wrote ∙ shelves_same f cells n p e room few ∙ same,
       ap (drop 4096) wrote ∙ past_same f cells n p e room few ∙ c.loop-n.invariant.3,
-      count_more _ _ c.loop-n.s c.push.ensures count,
+      omega (arith, ap length c.push.ensures, length-append c.loop-n.seen.noted.items (c.loop-n.s ∷ []), count),
     )
 
 pub returns : goal.returns

@@ -1,5 +1,4 @@
 use Rattle.std.proofs.Common.{◌≡◌, length, take, drop}
-use Rattle.rows.specs.Chains.{situations}
 use Rattle.rows.specs.Pieces.{meanings}
 use Rattle.rows.proofs.Walking.{Walked}
 use Rattle.rows.proofs.walk.walk.Given as goal
@@ -8,7 +7,7 @@ abbrev pub invariant-loop-n : goal.invariant-loop-n
 invariant-loop-n g l =
     let m = g.V.Algebra.model in
     let f = g.V.Algebra.means in
-    Walked (g.R.RowRule.works l.rule m (meanings f (take 2048 l.initial.cells.lent.now))) l.n l.s (situations l.seen.noted.items) (meanings f l.cells.lent.now)
+    Walked (g.R.RowRule.works l.rule m (meanings f (take 2048 l.initial.cells.lent.now))) l.n l.s l.seen.noted.items (meanings f l.cells.lent.now)
     × g.R.RowRule.fits l.rule l.s
     × (take 2048 l.cells.lent.now ≡ take 2048 l.initial.cells.lent.now)
     × (drop 4096 l.cells.lent.now ≡ drop 4096 l.initial.cells.lent.now)

@@ -1,29 +1,35 @@
-use Rattle.std.proofs.Common.{◌≡◌, ℕ, ◌≤◌, get_or, Some, None, ap, sym, ◌∙◌, subst, arith, rules}
-use Rattle.rows.specs.Chains.{chain, nth}
-use Rattle.rows.proofs.Chaining.{Ahead, past, blank, newest_within, reads_situation, reads_before, shorter, ahead_first, ahead_next}
+use Rattle.std.proofs.Common.{◌≡◌, ℕ, ◌≤◌, get_or, length, Some, ap, sym, ◌∙◌, subst, false, rules}
+use Rattle.rows.specs.Chains.{keys, newest}
+use Rattle.rows.specs.Situations.{chain, nth}
+use Rattle.rows.specs.Rules.Rule.{situation}
+use Rattle.rows.proofs.Chaining.{past, leads, shorter}
+use Rattle.rows.proofs.Seeking.{Ahead, count_same, ahead_first, ahead_next}
 use Rattle.rows.proofs.situations.Situations.find.Goals as goal
 
 pub loop-next-init : goal.loop-next-init
 loop-next-init c =
     let self = c.args.self.now in
-    ahead_first self.noted.items c.args.s _
-    (ap (λ (h : ℕ). get_or self.newest h None) c.chain.ensures ∙ self.headed (chain c.args.s) (omega arith))
+    let links = self.chains.links.items in
+    let s = c.args.s in
+    ahead_first self.noted.items s _
+    (c.head-next.ensures
+    ∙ ap (newest (keys links) (length links)) c.chain.ensures
+    ∙ ap (λ (n : ℕ). newest (keys links) n (chain s)) (count_same links self.noted.items self.keyed)
+    ∙ ap (λ ks. newest ks (length self.noted.items) (chain s)) self.keyed)
 
 pub loop-next-smaller : goal.loop-next-smaller
 loop-next-smaller c =
-    let self = c.args.self.now in
-    let noted = self.noted.items in
+    let ks = keys c.args.self.now.chains.links.items in
     let k = c.in-Some.number in
-    let here : Ahead noted c.args.s (Some k) = subst (Ahead noted c.args.s) c.in-Some.is c.loop-next.invariant in
-    let before = reads_before c.deref.result.now noted k c.deref.ensures.0 here.within self.linked in
-    shorter _ c.loop-next.next k c.in-Some.is (subst (λ p. past p ≤ k) (sym before) (newest_within noted k (chain (nth noted k))))
+    shorter _ c.loop-next.next k c.in-Some.is (subst (λ p. past p ≤ k) (sym c.before-next.ensures) (leads ks k (get_or ks k 0)).within)
 
 pub loop-next-preserved : goal.loop-next-preserved
 loop-next-preserved c =
     let self = c.args.self.now in
     let noted = self.noted.items in
     let k = c.in-Some.number in
-    let here : Ahead noted c.args.s (Some k) = subst (Ahead noted c.args.s) c.in-Some.is c.loop-next.invariant in
-    let before = reads_before c.deref.result.now noted k c.deref.ensures.0 here.within self.linked in
-    let other : (get_or c.deref.result.now k blank).situation ≡ c.args.s → ⊥ = search rules in
-    ahead_next noted c.args.s k _ here (λ e. other (reads_situation c.deref.result.now noted k c.deref.ensures.0 here.within ∙ e)) before
+    let other : get_or c.deref.result.now k (situation 0 0 0 false false) ≡ c.args.s → ⊥ = search rules in
+    ahead_next noted c.args.s k _
+    (subst (Ahead noted c.args.s) c.in-Some.is c.loop-next.invariant)
+    (λ e. other (ap (λ xs. nth xs k) c.deref.ensures.0 ∙ e))
+    (c.before-next.ensures ∙ ap (λ ks. newest ks k (get_or ks k 0)) self.keyed)

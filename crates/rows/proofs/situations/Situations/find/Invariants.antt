@@ -1,4 +1,5 @@
-use Rattle.rows.proofs.Chaining.{Ahead, past}
+use Rattle.rows.proofs.Chaining.{past}
+use Rattle.rows.proofs.Seeking.{Ahead}
 use Rattle.rows.proofs.situations.Situations.find.Given as goal
 
 abbrev pub invariant-loop-next : goal.invariant-loop-next
