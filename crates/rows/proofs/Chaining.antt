@@ -1,5 +1,5 @@
 -- The way along a chain, and one number more in the chains.
-use Rattle.std.proofs.Common.{◌≡◌, ℕ, zero, suc, ◌+◌, ◌<◌, ◌≤◌, cond, eqb, ◌≢◌, List, [], ◌∷◌, ◌++◌, length, get_or, set, Option, Some, None, sym, refl, ap, ◌∙◌, subst, ⊎_elim, arith, length-append}
+use Rattle.std.proofs.Common.{◌≡◌, ℕ, zero, suc, ◌+◌, ◌<◌, ◌≤◌, cond, eqb, ◌≢◌, List, [], ◌∷◌, ◌++◌, length, map, get_or, set, Option, Some, None, sym, refl, ap, ◌∙◌, subst, ⊎_elim, arith, length-append}
 use Rattle.std.proofs.Math.Seq.{get_or-append_seam}
 use Rattle.std.proofs.lemmas.List.{get_or-set_same, get_or-set_other, get_or_append_left, length-map, map-append}
 use Rattle.std.proofs.lemmas.Bool.{cases_eq, cond-true, cond-false, cond_both, eq-eqb, ne_eqb, eqb-true, eqb-false}
@@ -47,8 +47,12 @@ shorter p q k e below = let is = ap past e in omega arith
 abbrev pub no_link : Link
 no_link = record { key = 0; before = None }
 
-pub length-keys : (links : List Link) → length (keys links) ≡ length links
+length-keys : (links : List Link) → length (keys links) ≡ length links
 length-keys links = simp length-map
+
+-- as many numbers are linked as there are items with these keys
+pub count_keyed : {A : Type 0} (key : A → ℕ) (links : List Link) (items : List A) → keys links ≡ map key items → length links ≡ length items
+count_keyed key links items keyed = sym (length-keys links) ∙ ap length keyed ∙ length-map items key
 
 module _ (links : List Link) (x : Link) where
   keys_more : keys (links ++ x ∷ []) ≡ keys links ++ x.key ∷ []

@@ -2,7 +2,6 @@ pub mod PhaseLaws
 pub mod Meanings
 pub mod Folds
 pub mod SetLaws
-pub mod TableLaws
 pub mod Periods
 pub mod Ranges
 pub mod Walking
@@ -13,3 +12,4 @@ pub mod Backwards
 pub mod Unrolling
 pub mod Chaining
 pub mod Seeking
+pub mod TableLaws

@@ -1,10 +1,9 @@
 -- A situation looked for along its chain.
 use Rattle.std.proofs.Common.{◌≡◌, ℕ, ◌+◌, ◌<◌, ◌≤◌, false, List, length, map, get_or, Option, Some, sym, refl, ap, ◌∙◌, subst, ⊎_elim, arith}
-use Rattle.std.proofs.lemmas.List.{length-map, get_or-map}
+use Rattle.std.proofs.lemmas.List.{get_or-map}
 use Rattle.std.proofs.lemmas.Bool.{cases_eq}
 use Rattle.rows.specs.declared.situation.Situation.{Situation}
-use Rattle.rows.specs.declared.link.Link.{Link}
-use Rattle.rows.specs.Chains.{keys, newest}
+use Rattle.rows.specs.Chains.{newest}
 use Rattle.rows.specs.Rules.Rule.{situation}
 use Rattle.rows.specs.Situations.{chain, nth}
 use Rattle.rows.proofs.Chaining.{past, leads, Leads}
@@ -12,10 +11,6 @@ use Rattle.rows.proofs.Chaining.{past, leads, Leads}
 -- the key of a situation noted is its chain
 key_of : (noted : List Situation) (k : ℕ) → k < length noted → get_or (map chain noted) k 0 ≡ chain (nth noted k)
 key_of noted k less = get_or-map chain noted k (situation 0 0 0 false false) 0 less
-
--- as many numbers are linked as situations are noted
-pub count_same : (links : List Link) (noted : List Situation) → keys links ≡ map chain noted → length links ≡ length noted
-count_same links noted keyed = sym (length-map links (λ l. l.key)) ∙ ap length keyed ∙ length-map noted chain
 
 -- on the way along the chain of s: each number of a situation that equals s is p or below it
 pub record Ahead (noted : List Situation) (s : Situation) (p : Option ℕ) : Type 0 where

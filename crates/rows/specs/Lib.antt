@@ -5,6 +5,7 @@ pub mod Rules
 pub mod Repeats
 pub mod Search
 pub mod Filled
+pub mod Gathered
 pub mod Unrolled
 pub mod Outcomes
 pub mod Chains

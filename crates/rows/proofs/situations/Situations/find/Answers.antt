@@ -2,8 +2,8 @@ use Rattle.std.proofs.Common.{◌≡◌, ℕ, ◌≤◌, get_or, length, Some, a
 use Rattle.rows.specs.Chains.{keys, newest}
 use Rattle.rows.specs.Situations.{chain, nth}
 use Rattle.rows.specs.Rules.Rule.{situation}
-use Rattle.rows.proofs.Chaining.{past, leads, shorter}
-use Rattle.rows.proofs.Seeking.{Ahead, count_same, ahead_first, ahead_next}
+use Rattle.rows.proofs.Chaining.{past, leads, shorter, count_keyed}
+use Rattle.rows.proofs.Seeking.{Ahead, ahead_first, ahead_next}
 use Rattle.rows.proofs.situations.Situations.find.Goals as goal
 
 pub loop-next-init : goal.loop-next-init
@@ -14,7 +14,7 @@ loop-next-init c =
     ahead_first self.noted.items s _
     (c.head-next.ensures
     ∙ ap (newest (keys links) (length links)) c.chain.ensures
-    ∙ ap (λ (n : ℕ). newest (keys links) n (chain s)) (count_same links self.noted.items self.keyed)
+    ∙ ap (λ (n : ℕ). newest (keys links) n (chain s)) (count_keyed chain links self.noted.items self.keyed)
     ∙ ap (λ ks. newest ks (length self.noted.items) (chain s)) self.keyed)
 
 pub loop-next-smaller : goal.loop-next-smaller

@@ -1,0 +1,29 @@
+use Rattle.std.proofs.Common.{ℕ, eqb, take, fold, filter, refl, ap, ◌∙◌, arith, rules}
+use Rattle.std.specs.List.{range_with_len}
+use borrow.Author.Tests.{tests}
+use Rattle.std.proofs.lemmas.Iterator.{YieldsList-from_range}
+use Rattle.std.proofs.lemmas.Iterator.Consumers.{YieldsList-from_filter}
+use Rattle.algebra.specs.Model.{Laws}
+use Rattle.rows.specs.Gathered.{Gathered, together, gathered, held}
+use Rattle.rows.specs.Sets.{has}
+use Rattle.rows.proofs.Folds.{fold_read, fold_passing}
+use Rattle.rows.proofs.TableLaws.{over_states, state_by_state}
+use Rattle.rows.proofs.table.Table.chained.Given.{Over}
+use Rattle.rows.proofs.table.Table.chained.Goals as goal
+
+laws : (g : Over) → Laws g.V.Algebra.model
+laws g = search rules
+
+pub returns : goal.returns
+returns g c =
+    let m = g.V.Algebra.model in
+    let set = c.args.set in
+    let xs = take 1024 c.args.self.now.arcs.now in
+    let of = λ (q : ℕ). gathered m (λ a. eqb a.from q) xs in
+    let step = λ (all : Gathered m) (q : ℕ). together m all (of q) in
+    fold_read _ (held m g.V.Algebra.means) step _ _ c.fold.ensures.ran
+    (YieldsList-from_filter _ (has set) (YieldsList-from_range 0 64 64 c.filter.ensures.source (omega arith)) c.filter.ensures.closure (λ x b q k. search (rules, tests)))
+    (λ s x b q k. search rules)
+    ∙ ap (λ start. fold step start (filter (has set) (range_with_len 0 64))) c.nothing.ensures
+    ∙ fold_passing (has set) step (over_states m set of) (λ k. refl) 64
+    ∙ state_by_state m (laws g) set (search rules) xs
