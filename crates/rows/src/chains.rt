@@ -45,11 +45,12 @@ impl Chains {
         requires { length self.old.links.items < 1024 }
         ensures { keys self.new.links.items ≡ keys self.old.links.items ++ key ∷ [] }
     {
+        let chain = key as usize;
         let number = self.links.len() as u16;
         self.links.push(Link {
             key,
-            before: self.heads[key as usize],
+            before: self.heads[chain],
         });
-        self.heads[key as usize] = Some(number);
+        self.heads[chain] = Some(number);
     }
 }

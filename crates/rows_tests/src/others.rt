@@ -30,7 +30,7 @@ fn states<V: Algebra>(rt: &impl Abort, cells: &mut Cells<V>, shelf: usize) -> Re
         arc(1, 0, 3, 0b0100),
         arc(2, 0, 1, 0b1000),
     ];
-    unrolled(rt, &Table { arcs: &arcs }, cells, shelf, (2, 0, 2))
+    unrolled(rt, &Table::new(&arcs), cells, shelf, (2, 0, 2))
 }
 
 // The states beside a pause of 2 cycles on port 4.

@@ -120,7 +120,7 @@ fn aborts(rt: HostRuntime) -> Result<(), Fail> {
             },
         },
     ];
-    let h = unrolled(&rt, &Table { arcs: &arcs }, cells, 0, (1, 0, 1))?;
+    let h = unrolled(&rt, &Table::new(&arcs), cells, 0, (1, 0, 1))?;
     let a = pause(&rt, cells, 1, Worst { cycles: 30 });
     let b = node(&rt, cells, 2, Worst { cycles: 1 });
     let a = unrolled(&rt, &Sequence { a, b }, cells, 3, (3, 2, 1))?;

@@ -116,7 +116,7 @@ pub fn put_table<V: Algebra>(
         first: core.arcs.len(),
         count: arcs.len(),
     };
-    let reply = build(core, &Table { arcs }, place, step)?;
+    let reply = build(core, &Table::new(arcs), place, step)?;
     core.arcs.try_extend_from_slice(arcs).unwrap();
     Ok(reply)
 }
