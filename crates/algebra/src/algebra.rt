@@ -46,7 +46,7 @@ pub trait Algebra: Copy + Eq {
     ghost chosen: { model.chooses ≡ true → (a b : model.Carrier) → (model.join a b ≡ a) ⊎ (model.join a b ≡ b) };
 }
 
-// An algebra that says yes to `chooses`, on which the first tick of a report rests.
+// An algebra that says yes to `chooses`: each of its reports names the first tick.
 pub trait Choosing: Algebra {
     fn chooses_always() -> bool
         ensures { (result ≡ true) × (Self.Algebra.model.chooses ≡ true) };

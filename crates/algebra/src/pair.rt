@@ -1,4 +1,4 @@
-// Any two algebras side by side, half by half.
+// Any two algebras side by side, half by half: the join by the joins, the sum by the sums.
 ghost use Rattle.algebra.specs.Models.{pair as pair_of};
 ghost use Rattle.std.proofs.Common.{rules};
 

@@ -1,4 +1,4 @@
-// The ports used: both the join and the sum are the union.
+// The ports used: both the join and the sum are the union, each under its own equation.
 ghost use Rattle.std.specs.Prelude.{Some, decimal};
 ghost use Rattle.algebra.specs.Models.{ports as model_of_ports};
 ghost use Rattle.algebra.specs.Bits.{or_assoc, or_or};

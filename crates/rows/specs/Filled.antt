@@ -1,5 +1,5 @@
--- A shelf filled from the working cells.
-use Rattle.std.specs.Prelude.{◌≡◌, ℕ, ◌+◌, ◌*◌, ◌<◌, ◌≤◌, cond, ◌⊎◌, List, length, None, Option, nat_lt, slice_index_or}
+-- A shelf filled from the working cells, and the cells that nothing fills.
+use Rattle.std.specs.Prelude.{◌≡◌, ℕ, ◌+◌, ◌*◌, ◌<◌, ◌≤◌, cond, ◌⊎◌, List, length, drop, None, Option, nat_lt, slice_index_or}
 
 module _ {X : Type 0} where
   -- what phase k of a row takes from the working cells: absent from the size on
@@ -12,3 +12,7 @@ module _ {X : Type 0} where
     pub pauses : (k : ℕ) → k < 64 → slice_index_or after (128 * shelf + k) None ≡ kept_at before 2048 size k
     pub exits : (k : ℕ) → k < 64 → slice_index_or after (128 * shelf + 64 + k) None ≡ kept_at before 3072 size k
     pub others : (j : ℕ) → (j < 128 * shelf) ⊎ (128 * shelf + 128 ≤ j) → slice_index_or after j None ≡ slice_index_or before j None
+
+  -- the cells past the 4,096 that are used are as they were
+  abbrev pub SamePast : (before after : List (Option X)) → Type 0
+  SamePast before after = drop 4096 after ≡ drop 4096 before

@@ -3,6 +3,7 @@ use Rattle.std.specs.Prelude.{ℕ, ◌+◌, ◌*◌, ◌&&◌, List, map, is_som
 use Rattle.std.specs.Option.{option_map}
 use Rattle.algebra.specs.Model.{Model}
 use Rattle.algebra.specs.Coefficients.{Coef}
+use Rattle.rows.specs.declared.cells.Read.{Read}
 use Rattle.rows.specs.declared.piece.Piece.{Piece}
 use Rattle.rows.specs.declared.piece.Row.{Row}
 use Rattle.rows.specs.declared.piece.Row.TheVariants.{Pause, Exit}
@@ -61,3 +62,11 @@ on_shelf m cells shelf transient period = record {
 -- the rows of a piece
 abbrev pub rows_of : (m : Model) → List (Coef m) → Piece → Rows m
 rows_of m cells a = on_shelf m cells a.place.shelf a.shape.transient a.shape.period
+
+-- what the kept cells mean
+abbrev pub known : {V C : Type 0} → (V → C) → Read V 2048 → List (Option C)
+known means kept = meanings means kept.cells.now
+
+-- the rows of a piece over what is kept
+abbrev pub given : (m : Model) {V : Type 0} → (V → m.Carrier) → Read V 2048 → Piece → Rows m
+given m means kept = rows_of m (known means kept)

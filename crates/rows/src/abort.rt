@@ -21,6 +21,7 @@ impl RowRule for Abort {
 
     ghost works = { λ r m cells. the_abort m (rows_of m cells r.h) (rows_of m cells r.a) };
 
+    // the loop begins with this mark too, which says another thing there
     fn first<V: Algebra>(&self) -> Situation {
         Situation {
             wa: true,

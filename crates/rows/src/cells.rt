@@ -1,5 +1,6 @@
 // The cells that a rack is lent, and those among them that its shelves keep.
-ghost use Rattle.std.specs.Prelude.{◌≡◌, ℕ, ◌+◌, ◌<◌, ◌≤◌, length, take, drop, None as absent, slice_index_or, slice_set};
+ghost use Rattle.std.specs.Prelude.{◌≡◌, ℕ, ◌+◌, ◌<◌, ◌≤◌, length, take, None as absent, slice_index_or, slice_set};
+ghost use Rattle.rows.specs.Filled.{SamePast};
 
 use algebra::algebra::Algebra;
 
@@ -28,7 +29,7 @@ impl<'a, V: Algebra> Cells<'a, V> {
     // Sets the first 4,096 to absent.
     pub fn wipe(&mut self)
         ensures blank { (j : ℕ) → j < 4096 → slice_index_or self.new.lent.now j absent ≡ absent }
-        ensures past { drop 4096 self.new.lent.now ≡ drop 4096 self.old.lent.now }
+        ensures past { SamePast self.old.lent.now self.new.lent.now }
     {
         self.lent[..4096].fill(None);
     }

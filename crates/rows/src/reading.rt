@@ -1,8 +1,9 @@
-// Reading a piece's coefficients from the cells, and joining or moving a set of its phases.
+// Reading a piece's coefficients from what is kept, and joining or moving a set of its phases. A rule has its pieces before
+// it is lent what is kept, so the two meet in each call: a struct of both would be made anew at each look.
 ghost use Rattle.std.specs.Prelude.{◌≡◌};
 ghost use Rattle.std.specs.Option.{option_map};
 ghost use Rattle.rows.specs.Phases.{IsPhase};
-ghost use Rattle.rows.specs.Pieces.{rows_of, meanings, row as row_of, size, moved as phases_after};
+ghost use Rattle.rows.specs.Pieces.{given, row as row_of, size, moved as phases_after};
 ghost use Rattle.rows.specs.Sets.{has as has_member, joins};
 
 use crate::cells::Kept;
@@ -15,7 +16,7 @@ impl Piece {
     // The coefficient of a row at phase k.
     pub fn at<V: Algebra>(&self, row: Row, kept: &Kept<V>, k: usize) -> Option<V>
         requires { IsPhase self.now.shape k }
-        ensures { option_map V.means result ≡ row_of (rows_of V.model (meanings V.means kept.now.cells.now) self.now) row k }
+        ensures { option_map V.means result ≡ row_of (given V.model V.means kept.now self.now) row k }
     {
         match row {
             Row::Pause => kept.cells[128 * self.place.shelf + k],
@@ -25,7 +26,7 @@ impl Piece {
 
     // The join of a row's coefficients over a set of phases.
     pub fn over<V: Algebra>(&self, row: Row, kept: &Kept<V>, set: u64) -> Option<V>
-        ensures { option_map V.means result ≡ joins V.model (has_member set) (row_of (rows_of V.model (meanings V.means kept.now.cells.now) self.now) row) (size (rows_of V.model (meanings V.means kept.now.cells.now) self.now)) }
+        ensures { option_map V.means result ≡ joins V.model (has_member set) (row_of (given V.model V.means kept.now self.now) row) (size (given V.model V.means kept.now self.now)) }
     {
         (0..self.shape.size())
             .filter(|&k| has(set, k))
@@ -34,7 +35,7 @@ impl Piece {
 
     // The phase after each member of a set at which pause is present.
     pub fn moved<V: Algebra>(&self, kept: &Kept<V>, set: u64) -> u64
-        ensures { result ≡ phases_after (rows_of V.model (meanings V.means kept.now.cells.now) self.now) set }
+        ensures { result ≡ phases_after (given V.model V.means kept.now self.now) set }
     {
         (0..self.shape.size())
             .filter(

@@ -1,7 +1,7 @@
 // Loop of A: the set of phases that A may be in, and whether it is tick 0.
 ghost use Rattle.std.specs.Prelude.{◌≡◌};
 ghost use Rattle.std.specs.Option.{option_map};
-ghost use Rattle.rows.specs.Pieces.{rows_of, meanings};
+ghost use Rattle.rows.specs.Pieces.{rows_of, given};
 ghost use Rattle.rows.specs.Rules.Loop.{loop as the_loop, starts};
 
 use crate::cells::Kept;
@@ -20,7 +20,7 @@ pub struct Repeat {
 impl Repeat {
     // The weight with which A starts at this tick: the unit at tick 0, later what its runs leave with.
     fn again<V: Algebra>(&self, kept: &Kept<V>, s: Situation) -> Option<V>
-        ensures { option_map V.means result ≡ starts V.model (rows_of V.model (meanings V.means kept.now.cells.now) self.now.a) s.wa s.set }
+        ensures { option_map V.means result ≡ starts V.model (given V.model V.means kept.now self.now.a) s.wa s.set }
     {
         if s.wa {
             Some(V::unit())
@@ -35,6 +35,7 @@ impl RowRule for Repeat {
 
     ghost works = { λ r m cells. the_loop m (rows_of m cells r.a) };
 
+    // abort begins with the mark of its first side too, which says another thing there
     fn first<V: Algebra>(&self) -> Situation {
         Situation {
             wa: true,

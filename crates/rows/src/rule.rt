@@ -4,7 +4,7 @@ ghost use Rattle.std.specs.Option.{option_map};
 ghost use Rattle.algebra.specs.Model.{Model};
 ghost use Rattle.algebra.specs.Coefficients.{Coef};
 ghost use Rattle.rows.specs.declared.situation.Situation.{Situation as Sit};
-ghost use Rattle.rows.specs.Pieces.{meanings};
+ghost use Rattle.rows.specs.Pieces.{known};
 ghost use Rattle.rows.specs.Rules.Rule.{Rule};
 
 use crate::cells::Kept;
@@ -32,8 +32,8 @@ pub trait RowRule {
 
     fn look<V: Algebra>(&self, kept: &Kept<V>, s: Situation) -> Tick<V>
         requires fits { fits self.now s }
-        ensures pause { option_map V.Algebra.means result.pause ≡ (works self.now V.Algebra.model (meanings V.Algebra.means kept.now.cells.now)).pause s }
-        ensures exit { option_map V.Algebra.means result.exit ≡ (works self.now V.Algebra.model (meanings V.Algebra.means kept.now.cells.now)).exit s }
-        ensures next { result.next ≡ (works self.now V.Algebra.model (meanings V.Algebra.means kept.now.cells.now)).next s }
+        ensures pause { option_map V.Algebra.means result.pause ≡ (works self.now V.Algebra.model (known V.Algebra.means kept.now)).pause s }
+        ensures exit { option_map V.Algebra.means result.exit ≡ (works self.now V.Algebra.model (known V.Algebra.means kept.now)).exit s }
+        ensures next { result.next ≡ (works self.now V.Algebra.model (known V.Algebra.means kept.now)).next s }
         ensures fits { fits self.now result.next };
 }

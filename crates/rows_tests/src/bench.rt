@@ -1,5 +1,5 @@
-// What the tests work with: pieces written onto their shelves by hand, rules unrolled, rows read. The cells and a shelf
-// are handed over as in the code that is tested.
+// What the tests work with: pieces written onto their shelves by hand, rules unrolled, rows read. The cells go to each, as
+// in the code that is tested, and a shelf by its number, of which the place is made here.
 use algebra::algebra::Algebra;
 use algebra::best::Best;
 use algebra::ports::Ports;
@@ -85,10 +85,7 @@ pub fn ring<V: Algebra>(
     let place = place(rt, shelf);
     assert!(rt; period >= 1 && period <= 64);
     let from = 128 * place.shelf;
-    // a `for`, as `fill` asks that a clone cannot fail, which is not known of a type parameter's
-    for cell in &mut cells.lent[from..from + period] {
-        *cell = Some(V::unit());
-    }
+    cells.lent[from..from + period].fill_with(|| Some(V::unit()));
     cells.lent[from] = Some(value);
     Piece {
         place,

@@ -1,4 +1,4 @@
-// One state table, and a fork over it, under each algebra.
+// One state table, and a fork over it, under each algebra: a test for each, so that one that fails names its algebra.
 use crate::bench::*;
 use algebra::algebra::Algebra;
 use algebra::arc::Arc;
