@@ -211,22 +211,22 @@ module _ (m : Model) (laws : Laws m) (set : ℕ) where
       (λ h. before))
       (cases_eq arc.from n)
 
-  -- the arcs of each state of the set, state by state, are the arcs of the set
-  pub state_by_state : set < 2 ^ 64 → (arcs : List Arc) → over_states m set (λ q. gathered m (λ a. eqb a.from q) arcs) 64 ≡ gathered m (λ a. has set a.from) arcs
-  state_by_state small [] = over_none 64
-  state_by_state small (arc ∷ arcs) =
-      over_same _ _ (λ q. gathered_first m laws (λ a. eqb a.from q) arc arcs) 64
-      ∙ over_both (λ q. adds m laws (eqb arc.from q) arc) (λ q. gathered m (λ a. eqb a.from q) arcs) 64
-      ∙ ap (together m (over_states m set (λ q. adds m laws (eqb arc.from q) arc) 64)) (state_by_state small arcs)
+  -- the arcs of each state of a set below n, state by state, are the arcs of the set
+  pub state_by_state : (n : ℕ) → set < 2 ^ n → (arcs : List Arc) → over_states m set (λ q. gathered m (λ a. eqb a.from q) arcs) n ≡ gathered m (λ a. has set a.from) arcs
+  state_by_state n small [] = over_none n
+  state_by_state n small (arc ∷ arcs) =
+      over_same _ _ (λ q. gathered_first m laws (λ a. eqb a.from q) arc arcs) n
+      ∙ over_both (λ q. adds m laws (eqb arc.from q) arc) (λ q. gathered m (λ a. eqb a.from q) arcs) n
+      ∙ ap (together m (over_states m set (λ q. adds m laws (eqb arc.from q) arc) n)) (state_by_state n small arcs)
       ∙ ap (λ x. together m x (gathered m (λ a. has set a.from) arcs))
           (⊎_elim
           (λ e. beyond (omega arith))
-          (⊎_elim (λ low. over_one arc 64 low) (λ far. beyond (omega arith)))
-          (cases_order arc.from 64))
+          (⊎_elim (λ low. over_one arc n low) (λ far. beyond (omega arith)))
+          (cases_order arc.from n))
       ∙ sym (gathered_first m laws (λ a. has set a.from) arc arcs)
     where
-      beyond : 64 ≤ arc.from → over_states m set (λ q. adds m laws (eqb arc.from q) arc) 64 ≡ adds m laws (has set arc.from) arc
-      beyond far = over_past arc 64 far ∙ ap (λ b. adds m laws b arc) (sym (has_past set 64 arc.from small far))
+      beyond : n ≤ arc.from → over_states m set (λ q. adds m laws (eqb arc.from q) arc) n ≡ adds m laws (has set arc.from) arc
+      beyond far = over_past arc n far ∙ ap (λ b. adds m laws b arc) (sym (has_past set n arc.from small far))
 
 module _ (m : Model) (set : ℕ) where
   -- the arcs of the set are what the rule joins and reaches

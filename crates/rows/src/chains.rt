@@ -48,7 +48,7 @@ impl Chains {
         let chain = key as usize;
         let number = self.links.len() as u16;
         self.links.push(Link {
-            key,
+            key: key as u32,
             before: self.heads[chain],
         });
         self.heads[chain] = Some(number);

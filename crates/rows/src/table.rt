@@ -96,7 +96,9 @@ impl<'a> Table<'a> {
     fn chained<V: Algebra>(&self, set: u64) -> Gathered<V>
         ensures { held V.model V.means result ≡ gathered V.model (λ a. has_member set a.from) (take 1024 self.now.arcs.now) }
     {
-        (0..64u8)
+        // no state is past the highest of the set
+        let states = 64 - set.leading_zeros() as u8;
+        (0..states)
             .filter(|&state| has(set, state as usize))
             .fold(Gathered::nothing(), |sofar, state| self.from_state(sofar, state))
     }
