@@ -32,6 +32,7 @@ impl<'a, V: Algebra> Rack<'a, V> {
         requires { 4096 ≤ length cells.old }
         ensures blank { (j : ℕ) → j < 4096 → slice_index_or result.core.cells.lent.now j absent ≡ absent }
         ensures past { drop 4096 result.core.cells.lent.now ≡ drop 4096 cells.old }
+        ensures lent { length result.core.cells.lent.now ≡ length cells.old }
         ensures fresh { CoreFresh V.model V.means result.core }
         ensures promise { CoreOpens V.model V.means result.core }
     {

@@ -52,7 +52,8 @@ module _ (m : Model) where
   abbrev pub Blank : ℕ → List (Coef m) → Type 0
   Blank k cells = (j : ℕ) → OfShelf k j → slice_index_or cells j None ≡ None
 
-  -- the rows are put on shelf k with their step, new arcs are recorded, and every other shelf is as it was
+  -- the rows are put on shelf k with their step, new arcs are recorded, and every other shelf, how many cells are lent
+  -- and those from 4,096 on are as they were
   pub record Puts (row : ℕ → Coef m × Coef m) (k : ℕ) (made : Step) (more : List Arc) (s s' : State m) : Type 0 where
     pub transient : ℕ
     pub period : ℕ
@@ -62,6 +63,8 @@ module _ (m : Model) where
     pub shelves : s'.shelves ≡ slice_set s.shelves k (record { step = Some (length s.steps); transient = transient; period = period })
     pub steps : s'.steps ≡ s.steps ++ made ∷ []
     pub arcs : s'.arcs ≡ s.arcs ++ more
+    pub lent : s'.lent ≡ s.lent
+    pub past : s'.past ≡ s.past
 
   -- shelf k is emptied, and everything else is as it was
   pub record Empties (k : ℕ) (s s' : State m) : Type 0 where
@@ -70,6 +73,8 @@ module _ (m : Model) where
     pub shelves : s'.shelves ≡ slice_set s.shelves k empty_shelf
     pub steps : s'.steps ≡ s.steps
     pub arcs : s'.arcs ≡ s.arcs
+    pub lent : s'.lent ≡ s.lent
+    pub past : s'.past ≡ s.past
 
   -- the reply is the number of the first situation that equals an earlier one
   abbrev pub Turns : Rule m → ℕ → Type 0

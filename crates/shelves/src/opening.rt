@@ -20,6 +20,7 @@ pub fn open<'a, V: Algebra>(cells: &'a mut [Option<V>]) -> Core<'a, V>
     requires { 4096 ≤ length cells.old }
     ensures blank { (j : ℕ) → j < 4096 → slice_index_or result.cells.lent.now j absent ≡ absent }
     ensures past { drop 4096 result.cells.lent.now ≡ drop 4096 cells.old }
+    ensures lent { length result.cells.lent.now ≡ length cells.old }
     ensures fresh { CoreFresh V.model V.means result }
     ensures promise { CoreOpens V.model V.means result }
 {
