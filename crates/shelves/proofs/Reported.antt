@@ -55,7 +55,7 @@ module _ (m : Model) (laws : Laws m) (s : State m) (k : ℕ) (plan : Plan Label)
       go (Some t) e h =
           (t, e, first_at m laws m.weigh sound.gives many repeats (chosen chooses) w is t (h.0 ∙ shown) (λ n less same. h.1 n less (same ∙ sym shown)))
 
-  pub report_figured : Chosen m → (r : Report m) → Reports m k r s → Figured m plan r
+  pub report_figured : Chosen m → (r : Report m) → Reports m given r → Figured m plan r
   report_figured chosen r reports =
       let there = present_is whole figure_present in
       let ticked : (b : Bool) → m.chooses ≡ b → FirstTick m b r.figure given r.tick = λ b is. subst (λ c. FirstTick m c r.figure given r.tick) is reports.tick in

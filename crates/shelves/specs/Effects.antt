@@ -110,16 +110,16 @@ module _ (m : Model) where
       (join m (pause_at given t) (exit_at given t) ≡ figure) × ((n : ℕ) → n < t → join m (pause_at given n) (exit_at given n) ≢ figure)
   FirstTick false figure given tick = tick ≡ None
 
-  -- what report gives of shelf k: the join of both rows over all phases, the first tick, and the shape
-  pub record Reports (k : ℕ) (r : Report m) (s : State m) : Type 0 where
-    pub figure : r.figure ≡ figure_of (shelf_rows s k)
-    pub tick : FirstTick m.chooses r.figure (shelf_rows s k) r.tick
-    pub transient : r.transient ≡ (shelf_at s k).transient
-    pub period : r.period ≡ (shelf_at s k).period
+  -- what report gives of a shelf's rows: their join over all phases, the first tick, and the shape
+  pub record Reports (given : Rows m) (r : Report m) : Type 0 where
+    pub figure : r.figure ≡ figure_of given
+    pub tick : FirstTick m.chooses r.figure given r.tick
+    pub transient : r.transient ≡ given.transient
+    pub period : r.period ≡ given.period
 
   -- report is the call that is answered by a report
   abbrev pub Tells : Call → Report m → State m → Type 0
-  Tells (report k) r s = Reports k r s
+  Tells (report k) r s = Reports (shelf_rows s k) r
   Tells (node k l) r s = ⊥
   Tells (pause k l) r s = ⊥
   Tells (table k new) r s = ⊥
