@@ -50,6 +50,8 @@ fn arc(from: u8, to: u8, cycles: u32) -> Arc {
     }
 }
 
+// As many arcs as the longest ring has, of which a table takes its first. An `ArrayVec` would have the count inside, but
+// a loop would have to push each arc, and prove that there is room.
 fn ring(states: u8) -> [Arc; 65] {
     array::from_fn(|place| {
         let k = place as u8;

@@ -3,6 +3,7 @@ use crate::deed::Deed::*;
 use crate::deed::States::*;
 use crate::script::Line::*;
 use crate::script::{Line, under_each};
+use shelves::refusal::Refusal::*;
 use std::array;
 use std::test::*;
 
@@ -61,12 +62,12 @@ fn rings(rt: HostRuntime) -> Result<(), Fail> {
             Report(0, (2, 0), (0, 1), 0x3, (0, 63)),
             Done(Table(1, Ring(5)), 5),
             Done(Table(2, Ring(13)), 13),
-            Refused(Fork(1, 2), 13),
+            Refused(Fork(1, 2), TooLong),
             Report(1, (1, 0), (0, 1), 0x3, (0, 5)),
             Report(2, (1, 0), (0, 1), 0x3, (0, 13)),
             Done(Table(3, Ring(33)), 33),
             Done(Table(4, Ring(32)), 32),
-            Refused(Fork(3, 4), 12),
+            Refused(Fork(3, 4), NeverRepeats),
             Report(3, (1, 0), (0, 1), 0x3, (0, 33)),
             Report(4, (1, 0), (0, 1), 0x3, (0, 32)),
         ],
@@ -78,7 +79,7 @@ fn pauses() -> [Line; 127] {
     array::from_fn(|place| match place {
         0 => Done(Pause(0, 1), 0),
         124 => Done(Pause(1, 63), 0),
-        125 => Refused(Sequence(0, 1), 13),
+        125 => Refused(Sequence(0, 1), TooLong),
         123 | 126 => Report(0, (62, 61), (0, 62), 0xffff_ffff, (63, 1)),
         _ if place % 2 == 1 => Done(Pause(1, place as u32 / 2 + 2), 0),
         _ => Done(Sequence(0, 1), place / 2 + 3),

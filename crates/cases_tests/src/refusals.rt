@@ -1,11 +1,11 @@
-// Every refusal by its number.
+// Every refusal.
 use crate::deed::Deed::*;
 use crate::deed::States::*;
 use crate::script::Line::*;
 use crate::script::{Line, under_each};
 use algebra::worst::Worst;
 use shelves::opening::enough;
-use shelves::refusal::Refusal;
+use shelves::refusal::Refusal::*;
 use std::array;
 use std::test::*;
 
@@ -14,7 +14,30 @@ fn few_cells(rt: HostRuntime) -> Result<(), Fail> {
     let cells: [Option<Worst>; 4096] = [None; 4096];
     assert!(rt; enough(&cells));
     assert!(rt; !enough(&cells[0..4095]));
-    assert_eq!(rt; Refusal::FewCells.number(), 1);
+    Ok(())
+}
+
+// The numbers that are printed, in the order of the questions.
+#[test]
+fn numbers(rt: HostRuntime) -> Result<(), Fail> {
+    let refusals = [
+        FewCells,
+        NoShelf,
+        SameShelf,
+        ShelfTaken,
+        ShelfEmpty,
+        ManyCycles,
+        BadArcs,
+        StateWithoutArc,
+        StepsFull,
+        ArcsFull,
+        LeavesAtOnce,
+        NeverRepeats,
+        TooLong,
+    ];
+    for (k, no) in refusals.iter().enumerate() {
+        assert_eq!(rt; no.number() as usize, k + 1);
+    }
     Ok(())
 }
 
@@ -23,13 +46,13 @@ fn shelves_and_labels(rt: HostRuntime) -> Result<(), Fail> {
     under_each(
         &rt,
         &[
-            Refused(Node(16, 1), 2),
-            NoReport(16, 2),
-            Refused(Choice(15, 15), 3),
-            Refused(Pause(15, 1), 4),
-            Refused(Sequence(15, 0), 5),
-            Refused(Node(0, 1_073_741_824), 6),
-            NoReport(0, 5),
+            Refused(Node(16, 1), NoShelf),
+            NoReport(16, NoShelf),
+            Refused(Choice(15, 15), SameShelf),
+            Refused(Pause(15, 1), ShelfTaken),
+            Refused(Sequence(15, 0), ShelfEmpty),
+            Refused(Node(0, 1_073_741_824), ManyCycles),
+            NoReport(0, ShelfEmpty),
         ],
     )
 }
@@ -39,11 +62,11 @@ fn arcs(rt: HostRuntime) -> Result<(), Fail> {
     under_each(
         &rt,
         &[
-            Refused(Table(0, Ring(0)), 7),
-            Refused(Table(0, Ring(65)), 7),
-            Refused(Table(0, Stuck), 8),
+            Refused(Table(0, Ring(0)), BadArcs),
+            Refused(Table(0, Ring(65)), BadArcs),
+            Refused(Table(0, Stuck), StateWithoutArc),
             Done(Table(0, Loops), 1),
-            Refused(Table(1, Ring(1)), 10),
+            Refused(Table(1, Ring(1)), ArcsFull),
             Report(0, (1, 0), (1, 0), 0x2, (0, 1)),
         ],
     )
@@ -52,12 +75,13 @@ fn arcs(rt: HostRuntime) -> Result<(), Fail> {
 // A node and its clear in turn. The pause on shelf 15 is the first of 512 steps, and one more is refused.
 fn nodes() -> [Line; 1023] {
     array::from_fn(|place| match place {
-        1022 => Refused(Node(0, 1), 9),
+        1022 => Refused(Node(0, 1), StepsFull),
         _ if place % 2 == 0 => Done(Node(0, 1), 0),
         _ => Done(Clear(0), 0),
     })
 }
 
+// `chain` is another script: each is a test of its own, so that what fails has a name.
 #[test]
 fn steps(rt: HostRuntime) -> Result<(), Fail> {
     under_each(&rt, &nodes())

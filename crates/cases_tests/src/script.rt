@@ -15,12 +15,12 @@ use std::test::*;
 pub enum Line {
     // a call, and the number it replies
     Done(Deed, usize),
-    // a call, and the number of its refusal
-    Refused(Deed, u8),
+    // a call, and its refusal
+    Refused(Deed, Refusal),
     // a shelf's report: figure and tick under worst and under best, the ports, the transient and the period
     Report(u8, (u32, usize), (u32, usize), u32, (usize, usize)),
-    // a shelf whose report is refused, and by which number
-    NoReport(u8, u8),
+    // a shelf whose report is refused, and why
+    NoReport(u8, Refusal),
 }
 
 // On shelf 15 of every rack, where no script changes it.
@@ -47,11 +47,10 @@ fn reports<V: Told>(
 fn refused<T: Drop>(
     rt: &impl Abort,
     answer: Result<T, Refusal>,
-    number: u8,
+    why: Refusal,
     place: usize,
 ) -> Result<(), Fail> {
-    let why = answer.err().map(|why| why.number());
-    assert_eq!(rt; why, Some(number), "line {place}");
+    assert_eq!(rt; answer.err(), Some(why), "line {place}");
     Ok(())
 }
 
@@ -67,11 +66,11 @@ fn play<V: Told>(
             assert_eq!(rt; perform(rack, deed)?, number, "line {place}");
             Ok(())
         },
-        Line::Refused(deed, number) => refused(rt, perform(rack, deed), number, place),
+        Line::Refused(deed, why) => refused(rt, perform(rack, deed), why, place),
         Line::Report(shelf, worst, best, ports, shape) => {
             reports(rt, rack, shelf, Figures { worst, best, ports }, shape)
         }
-        Line::NoReport(shelf, number) => refused(rt, rack.report(shelf), number, place),
+        Line::NoReport(shelf, why) => refused(rt, rack.report(shelf), why, place),
     }
 }
 

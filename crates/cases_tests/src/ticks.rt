@@ -3,6 +3,7 @@ use crate::deed::Deed::*;
 use crate::deed::States::*;
 use crate::script::Line::*;
 use crate::script::under_each;
+use shelves::refusal::Refusal::*;
 use std::test::*;
 
 #[test]
@@ -30,7 +31,7 @@ fn side_by_side(rt: HostRuntime) -> Result<(), Fail> {
             Done(Pause(1, 9), 0),
             Done(Sequence(0, 1), 4),
             Report(0, (9, 1), (0, 2), 0x210, (3, 1)),
-            NoReport(1, 5),
+            NoReport(1, ShelfEmpty),
             Done(Loop(0), 3),
             Report(0, (9, 1), (4, 0), 0x210, (0, 2)),
             Done(Pause(1, 9), 0),
@@ -88,10 +89,10 @@ fn either(rt: HostRuntime) -> Result<(), Fail> {
             Done(Node(1, 40), 0),
             Done(Choice(0, 1), 3),
             Report(0, (40, 0), (0, 1), 0x500, (2, 1)),
-            Refused(Loop(0), 11),
+            Refused(Loop(0), LeavesAtOnce),
             Report(0, (40, 0), (0, 1), 0x500, (2, 1)),
             Done(Clear(0), 0),
-            NoReport(0, 5),
+            NoReport(0, ShelfEmpty),
         ],
     )
 }

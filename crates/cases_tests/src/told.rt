@@ -15,7 +15,8 @@ pub struct Figures {
     pub ports: u32,
 }
 
-// Each algebra reads its own part of what is awaited.
+// Each algebra reads its own part of what is awaited. Worst and best read alike: a function of both would take the part and
+// the cycles, and be as long as what it replaced.
 pub trait Told: Algebra {
     // Are a report's figure and tick as awaited?
     fn told(self, rt: &impl Abort, tick: Option<usize>, awaited: Figures);

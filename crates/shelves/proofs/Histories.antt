@@ -19,7 +19,7 @@ module _ (m : Model) where
   fresh_inv : (s : State m) → Fresh m s → Inv m (λ k. None) s
   fresh_inv s fresh = record {
     many = ap length fresh.shelves;
-    each = λ k low. ap (λ xs. (get_or xs k empty_shelf).step) fresh.shelves ∙ ap (λ x. x.step) (get_or-replicate 16 k empty_shelf empty_shelf (omega arith));
+    each = λ k low. (ap (λ xs. get_or xs k empty_shelf) fresh.shelves ∙ get_or-replicate 16 k empty_shelf empty_shelf (omega arith), λ j of. fresh.cells j);
   }
 
   -- what a call does is as the questions say
@@ -39,7 +39,7 @@ module _ (m : Model) where
 
     booked : (s : State m) (k : ℕ) (page : Option (Plan Label)) → PagedAt m s k page → AsBooked m s k page
     booked s k None p = p
-    booked s k (Some plan) p = record { step = p.step; holds = p.holds; spells = p.spells; gives = p.gives }
+    booked s k (Some plan) p = record { step = p.step; holds = p.holds; spells = p.spells; gives = p.gives; least = p.shelved.least }
 
     module _ (chosen : Chosen m) where
       tells : (c : Call) (reply : Reply m) (pages : Pages) (s s' : State m) → Inv m pages s → Does m c reply s s' → Told m c reply pages

@@ -15,7 +15,7 @@ use Rattle.runs.specs.declared.step.Step.{Step}
 use Rattle.runs.proofs.EachKind.{same_rows}
 use Rattle.runs.proofs.Steps.{stays}
 use Rattle.shelves.specs.Book.{Pages, with_page}
-use Rattle.shelves.specs.Effects.{OfShelf, Puts, Empties}
+use Rattle.shelves.specs.Effects.{OfShelf, Blank, Puts, Empties}
 use Rattle.shelves.specs.State.{State, ShelfState, empty_shelf, shelf_at}
 use Rattle.shelves.proofs.Alive.{Alive}
 use Rattle.shelves.proofs.ShelfCells.{same_pauses, same_exits, same_shelved, kept_shelved}
@@ -30,9 +30,9 @@ module _ (m : Model) where
     pub gives : JoinedRows m m.weigh plan (pause_at (on_shelf m cells k shelf.transient shelf.period)) (exit_at (on_shelf m cells k shelf.transient shelf.period))
     pub alive : Alive m (given_at (on_shelf m cells k shelf.transient shelf.period))
 
-  -- an empty shelf has an empty page, and a filled one is sound for its page's plan
+  -- a shelf whose page is empty is the empty one and its cells are absent, and another is sound for its page's plan
   abbrev pub Paged : List (Coef m) → List Step → List Arc → ℕ → ShelfState → Option (Plan Label) → Type 0
-  Paged cells steps arcs k shelf None = shelf.step ≡ None
+  Paged cells steps arcs k shelf None = (shelf ≡ empty_shelf) × Blank m k cells
   Paged cells steps arcs k shelf (Some plan) = Sound cells steps arcs k shelf plan
 
   abbrev pub PagedAt : State m → ℕ → Option (Plan Label) → Type 0
@@ -73,7 +73,7 @@ module _ (m : Model) (laws : Laws m) where
   still_paged : (before after : List (Coef m)) (steps later : List Step) (arcs more : List Arc) (k : ℕ)
       → ((i : ℕ) → OfShelf k i → get_or after i None ≡ get_or before i None)
       → (shelf : ShelfState) (page : Option (Plan Label)) → Paged m before steps arcs k shelf page → Paged m after (steps ++ later) (arcs ++ more) k shelf page
-  still_paged before after steps later arcs more k same shelf None s = s
+  still_paged before after steps later arcs more k same shelf None s = (s.0, λ i of. same i of ∙ s.1 i of)
   still_paged before after steps later arcs more k same shelf (Some plan) s = still_sound before after steps later arcs more k same shelf plan s
 
   module _ (s s' : State m) (k : ℕ) (shelf : ShelfState) (later : List Step) (more : List Arc)
@@ -128,4 +128,4 @@ module _ (m : Model) (laws : Laws m) where
   pub empty_keeps : (pages : Pages) (s s' : State m) → Inv m pages s → (k : ℕ) → k ≤ 15 → Empties m k s s' → Inv m (with_page pages k None) s'
   empty_keeps pages s s' inv k low empties =
       changed s s' k empty_shelf [] [] empties.others empties.shelves (empties.steps ∙ sym (append-nil s.steps)) (empties.arcs ∙ sym (append-nil s.arcs)) pages inv None
-      (λ e. ap (λ x. x.step) e) low
+      (λ e. (e, empties.blank)) low

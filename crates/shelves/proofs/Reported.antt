@@ -1,10 +1,11 @@
 -- A report of a sound shelf covers the plan of its page.
-use Rattle.std.proofs.Common.{◌≡◌, ℕ, ◌+◌, true, is_some, Some, None, Option, sym, refl, ap, ◌∙◌, subst, arith}
+use Rattle.std.proofs.Common.{◌≡◌, ℕ, ◌+◌, Bool, true, false, is_some, Some, None, Option, sym, refl, ap, ◌∙◌, subst, arith}
 use Rattle.algebra.specs.declared.label.Label.{Label}
 use Rattle.algebra.specs.Model.{Model, Laws, Chosen}
 use Rattle.algebra.specs.Coefficients.{Coef, join}
 use Rattle.rows.specs.Phases.{phase}
 use Rattle.rows.specs.Pieces.{Rows, pause_at, exit_at, given_at}
+use Rattle.rows.specs.Repeats.{LeastShape}
 use Rattle.rows.proofs.PhaseLaws.{phase_within}
 use Rattle.rows.proofs.Periods.{at_phase}
 use Rattle.runs.specs.Figure.{Repeats, figure, Covers, FirstAt}
@@ -42,26 +43,32 @@ module _ (m : Model) (laws : Laws m) (s : State m) (k : ℕ) (plan : Plan Label)
       let first = join m (pause_at given 0) (exit_at given 0) in
       sym (ap is_some (joins_above m laws (λ n. join m (pause_at given n) (exit_at given n)) 0 many (omega arith))) ∙ join_first m first whole sound.alive
 
-  first_tick : Chosen m → m.chooses ≡ true → (r : Report m) → r.figure ≡ whole → FirstTick m true r.figure given r.tick
-      → (t : ℕ) × (w : m.Carrier) × (r.tick ≡ Some t) × (r.figure ≡ Some w) × FirstAt m m.weigh plan t w
-  first_tick chosen chooses r figured ticked = go r.tick refl ticked
+  first_tick : Chosen m → m.chooses ≡ true → (w : m.Carrier) → whole ≡ Some w → (r : Report m) → r.figure ≡ whole → FirstTick m true r.figure given r.tick
+      → (t : ℕ) × (r.tick ≡ Some t) × FirstAt m m.weigh plan t w
+  first_tick chosen chooses w is r figured ticked = go r.tick refl ticked
     where
-      go : (tick : Option ℕ) → r.tick ≡ tick → FirstTick m true r.figure given tick
-          → (t : ℕ) × (w : m.Carrier) × (r.tick ≡ Some t) × (r.figure ≡ Some w) × FirstAt m m.weigh plan t w
+      shown : r.figure ≡ Some w
+      shown = figured ∙ is
+
+      go : (tick : Option ℕ) → r.tick ≡ tick → FirstTick m true r.figure given tick → (t : ℕ) × (r.tick ≡ Some t) × FirstAt m m.weigh plan t w
       go None e h = absurd h
       go (Some t) e h =
-          let there = present_is whole figure_present in
-          let w = there.0 in
-          let shown : r.figure ≡ Some w = figured ∙ there.1 in (
-            t,
-            w,
-            e,
-            shown,
-            first_at m laws m.weigh sound.gives many repeats (chosen chooses) w there.1 t (h.0 ∙ shown) (λ n less same. h.1 n less (same ∙ sym shown)),
-          )
+          (t, e, first_at m laws m.weigh sound.gives many repeats (chosen chooses) w is t (h.0 ∙ shown) (λ n less same. h.1 n less (same ∙ sym shown)))
 
-  pub report_figured : Chosen m → (r : Report m) → Reports m k r s → Figured m plan r
-  report_figured chosen r reports = record {
-    covers = subst (Covers m m.weigh plan) (sym reports.figure) (covers m laws m.weigh sound.gives many repeats);
-    first = λ chooses. first_tick chosen chooses r reports.figure (subst (λ b. FirstTick m b r.figure given r.tick) chooses reports.tick);
-  }
+  pub report_figured : Chosen m → (r : Report m) → Reports m given r → Figured m plan r
+  report_figured chosen r reports =
+      let there = present_is whole figure_present in
+      let ticked : (b : Bool) → m.chooses ≡ b → FirstTick m b r.figure given r.tick = λ b is. subst (λ c. FirstTick m c r.figure given r.tick) is reports.tick in
+      record {
+        figure = there.0;
+        is = reports.figure ∙ there.1;
+        covers = subst (Covers m m.weigh plan) there.1 (covers m laws m.weigh sound.gives many repeats);
+        first = λ chooses. first_tick chosen chooses there.0 there.1 r reports.figure (ticked true chooses);
+        unnamed = λ not. ticked false not;
+        shape = record {
+          pauses = pause_at given;
+          exits = exit_at given;
+          weights = sound.gives;
+          least = subst (λ (t : ℕ). LeastShape (given_at given) t r.period) (sym reports.transient) (subst (LeastShape (given_at given) given.transient) (sym reports.period) sound.shelved.least);
+        };
+      }

@@ -1,6 +1,6 @@
 -- Cells that are as they were, and what they mean.
-use Rattle.std.proofs.Common.{◌≡◌, ℕ, ◌<◌, ◌≤◌, List, get_or, take, None, Option, sym, ap, ◌∙◌, ⊎_elim, arith}
-use Rattle.std.proofs.lemmas.List.{get_or_past, length-take, length-map}
+use Rattle.std.proofs.Common.{◌≡◌, ℕ, ◌<◌, ◌≤◌, List, length, get_or, take, drop, None, Option, sym, ap, ◌∙◌, ⊎_elim, arith}
+use Rattle.std.proofs.lemmas.List.{get_or_past, length-take, length-drop, length-map}
 use Rattle.std.proofs.lemmas.Bool.{cases_lt}
 use Rattle.std.specs.Option.{option_map}
 use Rattle.rows.specs.Pieces.{meanings}
@@ -24,3 +24,7 @@ blank_mean f cells blank j = ⊎_elim
     (λ less. means_below f cells 2048 j less ∙ means_at f cells j ∙ ap (option_map f) (blank j (omega arith)))
     (λ (more : 2048 ≤ j). get_or_past (meanings f (take 2048 cells)) j None (simp (length-map, length-take) (omega arith)))
     (cases_lt j 2048)
+
+-- lists that are the same from an element on that both reach are of one length
+pub same_length : {X : Type 0} (n : ℕ) (before after : List X) → n ≤ length before → n ≤ length after → drop n after ≡ drop n before → length after ≡ length before
+same_length n before after long long' past = omega (arith, length-drop n before, length-drop n after, ap length past)

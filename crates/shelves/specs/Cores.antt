@@ -1,5 +1,5 @@
 -- What calls do to a rack, said of what it holds before and after, and of replies as they are given.
-use Rattle.std.specs.Prelude.{ℕ, List, [], map, Result}
+use Rattle.std.specs.Prelude.{◌≡◌, ℕ, ◌<◌, min, List, [], map, length, take, drop, None, Option, Result, slice_index_or}
 use Rattle.algebra.specs.declared.arc.Arc.{Arc}
 use Rattle.algebra.specs.Model.{Model}
 use Rattle.algebra.specs.Coefficients.{Coef}
@@ -21,13 +21,14 @@ use Rattle.shelves.specs.Stops.{Built}
 use Rattle.shelves.specs.Told.{reply_of}
 
 module _ (m : Model) {V : Type 0} (means : V → m.Carrier) where
-  -- nothing is on the shelves or recorded
-  abbrev pub CoreFresh : Core V → Type 0
-  CoreFresh core = Fresh m (state_of m means core)
-
-  -- no call has been made, and the promise is kept
-  abbrev pub CoreOpens : Core V → Type 0
-  CoreOpens core = Made m [] (state_of m means core) × Kept m [] (state_of m means core)
+  -- a rack is opened over lent cells: the first 4,096 are absent, the others are as they were, and nothing is on the
+  -- shelves or recorded; no call has been made, and the promise is kept
+  pub record CoreOpens (cells : List (Option V)) (core : Core V) : Type 0 where
+    pub blank : (j : ℕ) → j < 4096 → slice_index_or core.cells.lent.now j None ≡ None
+    pub past : drop 4096 core.cells.lent.now ≡ drop 4096 cells
+    pub lent : length core.cells.lent.now ≡ length cells
+    pub fresh : Fresh m (state_of m means core)
+    pub promise : Made m [] (state_of m means core) × Kept m [] (state_of m means core)
 
   -- every question of the call that is asked before unrolling says yes
   abbrev pub CoreSaysYes : Call → Core V → Type 0
@@ -65,3 +66,9 @@ module _ (m : Model) {V : Type 0} (means : V → m.Carrier) where
   abbrev pub CoreAnswersAll : List Given → List (Result (Answer V) Refusal) → (before after : Core V) → Type 0
   CoreAnswersAll calls replies before after =
       AnswersAll m (map call_of calls) (map (reply_of m means) replies) (state_of m means before) (state_of m means after)
+
+  -- the first n of a list of calls are answered, as many as there are replies lent for; the other replies are as they were
+  pub record CoreRuns (calls : List Given) (old new : List (Result (Answer V) Refusal)) (n : ℕ) (before after : Core V) : Type 0 where
+    pub count : n ≡ min (length calls) (length old)
+    pub rest : drop n new ≡ drop n old
+    pub answers : CoreAnswersAll (take n calls) (take n new) before after

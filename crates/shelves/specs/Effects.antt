@@ -52,7 +52,8 @@ module _ (m : Model) where
   abbrev pub Blank : ℕ → List (Coef m) → Type 0
   Blank k cells = (j : ℕ) → OfShelf k j → slice_index_or cells j None ≡ None
 
-  -- the rows are put on shelf k with their step, new arcs are recorded, and every other shelf is as it was
+  -- the rows are put on shelf k with their step, new arcs are recorded, and every other shelf, how many cells are lent
+  -- and those from 4,096 on are as they were
   pub record Puts (row : ℕ → Coef m × Coef m) (k : ℕ) (made : Step) (more : List Arc) (s s' : State m) : Type 0 where
     pub transient : ℕ
     pub period : ℕ
@@ -62,6 +63,8 @@ module _ (m : Model) where
     pub shelves : s'.shelves ≡ slice_set s.shelves k (record { step = Some (length s.steps); transient = transient; period = period })
     pub steps : s'.steps ≡ s.steps ++ made ∷ []
     pub arcs : s'.arcs ≡ s.arcs ++ more
+    pub lent : s'.lent ≡ s.lent
+    pub past : s'.past ≡ s.past
 
   -- shelf k is emptied, and everything else is as it was
   pub record Empties (k : ℕ) (s s' : State m) : Type 0 where
@@ -70,6 +73,8 @@ module _ (m : Model) where
     pub shelves : s'.shelves ≡ slice_set s.shelves k empty_shelf
     pub steps : s'.steps ≡ s.steps
     pub arcs : s'.arcs ≡ s.arcs
+    pub lent : s'.lent ≡ s.lent
+    pub past : s'.past ≡ s.past
 
   -- the reply is the number of the first situation that equals an earlier one
   abbrev pub Turns : Rule m → ℕ → Type 0
@@ -105,16 +110,16 @@ module _ (m : Model) where
       (join m (pause_at given t) (exit_at given t) ≡ figure) × ((n : ℕ) → n < t → join m (pause_at given n) (exit_at given n) ≢ figure)
   FirstTick false figure given tick = tick ≡ None
 
-  -- what report gives of shelf k: the join of both rows over all phases, the first tick, and the shape
-  pub record Reports (k : ℕ) (r : Report m) (s : State m) : Type 0 where
-    pub figure : r.figure ≡ figure_of (shelf_rows s k)
-    pub tick : FirstTick m.chooses r.figure (shelf_rows s k) r.tick
-    pub transient : r.transient ≡ (shelf_at s k).transient
-    pub period : r.period ≡ (shelf_at s k).period
+  -- what report gives of a shelf's rows: their join over all phases, the first tick, and the shape
+  pub record Reports (given : Rows m) (r : Report m) : Type 0 where
+    pub figure : r.figure ≡ figure_of given
+    pub tick : FirstTick m.chooses r.figure given r.tick
+    pub transient : r.transient ≡ given.transient
+    pub period : r.period ≡ given.period
 
   -- report is the call that is answered by a report
   abbrev pub Tells : Call → Report m → State m → Type 0
-  Tells (report k) r s = Reports k r s
+  Tells (report k) r s = Reports (shelf_rows s k) r
   Tells (node k l) r s = ⊥
   Tells (pause k l) r s = ⊥
   Tells (table k new) r s = ⊥

@@ -1,12 +1,12 @@
 -- Filled shelves, and those that a call fills.
-use Rattle.std.specs.Prelude.{◌≡◌, ℕ, true, List, [], ◌∷◌, is_some}
+use Rattle.std.specs.Prelude.{◌≡◌, ℕ, true, List, [], ◌∷◌}
 use Rattle.algebra.specs.Model.{Model}
 use Rattle.shelves.specs.Calls.{Call, node, pause, table, pair, loop, clear, report}
-use Rattle.shelves.specs.State.{State, shelf_at}
+use Rattle.shelves.specs.State.{State, holds_step}
 
 -- shelf k holds a step
 abbrev pub IsFilled : {m : Model} → State m → ℕ → Type 0
-IsFilled s k = is_some (shelf_at s k).step ≡ true
+IsFilled s k = holds_step s.shelves k ≡ true
 
 -- the shelves that a call fills where it is accepted
 abbrev pub filled_by : Call → List ℕ

@@ -1,5 +1,5 @@
 -- The state of a rack, from what it holds.
-use Rattle.std.specs.Prelude.{take}
+use Rattle.std.specs.Prelude.{length, take, drop}
 use Rattle.algebra.specs.Model.{Model}
 use Rattle.rows.specs.Pieces.{meanings}
 use Rattle.shelves.specs.declared.call.Call.{Call as Made}
@@ -15,6 +15,8 @@ state_of m means core = record {
   shelves = shelves_of core.shelves;
   steps = core.steps.items;
   arcs = core.arcs.items;
+  lent = length core.cells.lent.now;
+  past = meanings means (drop 4096 core.cells.lent.now);
 }
 
 -- a call as a history has it: a table by its arcs

@@ -1,9 +1,10 @@
 -- The promise over whole histories.
-use Rattle.std.specs.Prelude.{◌≡◌, ℕ, ◌+◌, ◌*◌, ◌<◌, ◌≤◌, true, ◌↔◌, List, [], ◌∷◌, replicate, Some, None, Option, slice_index_or}
+use Rattle.std.specs.Prelude.{◌≡◌, ℕ, ◌+◌, ◌*◌, ◌<◌, ◌≤◌, true, false, ◌↔◌, List, [], ◌∷◌, replicate, Some, None, Option, slice_index_or}
 use Rattle.algebra.specs.declared.label.Label.{Label}
 use Rattle.algebra.specs.Model.{Model}
 use Rattle.algebra.specs.Coefficients.{Coef}
-use Rattle.rows.specs.Pieces.{pause_at, exit_at}
+use Rattle.rows.specs.Pieces.{pause_at, exit_at, given_at}
+use Rattle.rows.specs.Repeats.{LeastShape}
 use Rattle.runs.specs.Figure.{Covers, FirstAt}
 use Rattle.runs.specs.Plan.{Plan}
 use Rattle.runs.specs.Runs.{End}
@@ -11,7 +12,7 @@ use Rattle.runs.specs.Steps.{Spells}
 use Rattle.runs.specs.Weights.{JoinedWeight, JoinedRows}
 use Rattle.shelves.specs.Book.{Pages, book}
 use Rattle.shelves.specs.Calls.{Call, node, pause, table, pair, loop, clear, report, Report, Reply, accepted, reported, refused, Event}
-use Rattle.shelves.specs.Effects.{Does, DoesAll}
+use Rattle.shelves.specs.Effects.{Blank, Does, DoesAll}
 use Rattle.shelves.specs.Questions.{Yes, AllYes, FirstNo}
 use Rattle.shelves.specs.Refusals.{order}
 use Rattle.shelves.specs.State.{State, empty_shelf, shelf_at, shelf_rows}
@@ -40,23 +41,38 @@ module _ (m : Model) where
   Answered [] = Unit {0}
   Answered (e ∷ h) = ((s : State m) × Made h s × Replies e.call e.reply s) × Answered h
 
-  -- shelf k holds a step that spells the plan, and gives at every tick the joined weights of its runs, paused and left
+  -- shelf k holds a step that spells the plan, and gives at every tick the joined weights of its runs, paused and left;
+  -- its transient and period are the least with which they repeat
   pub record Filled (s : State m) (k : ℕ) (plan : Plan Label) : Type 0 where
     pub step : ℕ
     pub holds : (shelf_at s k).step ≡ Some step
     pub spells : Spells s.steps s.arcs step plan
     pub gives : JoinedRows m m.weigh plan (pause_at (shelf_rows s k)) (exit_at (shelf_rows s k))
+    pub least : LeastShape (given_at (shelf_rows s k)) (shelf_at s k).transient (shelf_at s k).period
 
-  -- a shelf is filled exactly when the book holds a plan for it
+  -- a shelf is filled exactly when the book holds a plan for it; where it holds none, the shelf is the empty one and its
+  -- cells are all absent
   abbrev pub AsBooked : State m → ℕ → Option (Plan Label) → Type 0
-  AsBooked s k None = (shelf_at s k).step ≡ None
+  AsBooked s k None = (shelf_at s k ≡ empty_shelf) × Blank m k s.cells
   AsBooked s k (Some plan) = Filled s k plan
 
-  -- no weight at any tick of any run of the plan betters the figure, which is the join of some of them;
-  -- where the algebra chooses, some run has the figure at the named tick and none at an earlier one
+  -- from the transient on the joined weights of the plan repeat with the period, and both are the least
+  pub record Shaped (plan : Plan Label) (transient period : ℕ) : Type 0 where
+    pub pauses : ℕ → Coef m
+    pub exits : ℕ → Coef m
+    pub weights : JoinedRows m m.weigh plan pauses exits
+    pub least : LeastShape {X = Coef m × Coef m} (λ n. (pauses n, exits n)) transient period
+
+  -- there is a figure: no weight at any tick of any run of the plan betters it, and it is the join of some of them;
+  -- where the algebra chooses, some run has the figure at the named tick and none at an earlier one, else no tick is named;
+  -- and the shape is the plan's
   pub record Figured (plan : Plan Label) (r : Report m) : Type 0 where
-    pub covers : Covers m m.weigh plan r.figure
-    pub first : m.chooses ≡ true → (t : ℕ) × (w : m.Carrier) × (r.tick ≡ Some t) × (r.figure ≡ Some w) × FirstAt m m.weigh plan t w
+    pub figure : m.Carrier
+    pub is : r.figure ≡ Some figure
+    pub covers : Covers m m.weigh plan (Some figure)
+    pub first : m.chooses ≡ true → (t : ℕ) × (r.tick ≡ Some t) × FirstAt m m.weigh plan t figure
+    pub unnamed : m.chooses ≡ false → r.tick ≡ None
+    pub shape : Shaped plan r.transient r.period
 
   -- an accepted report is of the plan that the book held
   abbrev pub Told : Call → Reply m → Pages → Type 0

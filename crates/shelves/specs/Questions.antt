@@ -3,6 +3,7 @@ use Rattle.std.specs.Prelude.{◌≡◌, ℕ, ◌+◌, ◌<◌, ◌≤◌, true,
 use mathlib.Core.List.{Memᴰ as Among}
 use Rattle.std.specs.List.{AllByRecursion}
 use Rattle.algebra.specs.declared.arc.Arc.{Arc}
+use Rattle.algebra.specs.declared.label.Label.{Label}
 use Rattle.algebra.specs.Model.{Model}
 use Rattle.rows.specs.Pieces.{Rows, exit_at}
 use Rattle.rows.specs.Repeats.{FirstRepeat, LeastShape}
@@ -18,7 +19,11 @@ use Rattle.shelves.specs.declared.call.Pairing.TheVariants.{Choice, Sequence, Fo
 use Rattle.shelves.specs.declared.refusal.Refusal.{Refusal}
 use Rattle.shelves.specs.declared.refusal.Refusal.TheVariants.{FewCells, NoShelf, SameShelf, ShelfTaken, ShelfEmpty, ManyCycles, BadArcs, StateWithoutArc, StepsFull, ArcsFull, LeavesAtOnce, NeverRepeats, TooLong}
 use Rattle.shelves.specs.Calls.{Call, node, pause, table, pair, loop, clear, report, about, named}
-use Rattle.shelves.specs.State.{State, shelf_at, shelf_rows}
+use Rattle.shelves.specs.State.{State, holds_step, shelf_rows}
+
+-- the cycles are within the limit
+abbrev pub Light : Label → Type 0
+Light label = label.cycles ≤ 1073741823
 
 -- from a state, and to a state or out
 abbrev pub LawfulArc : Arc → Type 0
@@ -68,9 +73,9 @@ module _ (m : Model) (s : State m) where
   Yes c FewCells = Unit {0}
   Yes c NoShelf = AllByRecursion (λ k. k ≤ 15) (named c)
   Yes c SameShelf = Distinct (named c)
-  Yes c ShelfTaken = AllByRecursion (λ k. is_some (shelf_at s k).step ≡ false) (about c).fresh
-  Yes c ShelfEmpty = AllByRecursion (λ k. is_some (shelf_at s k).step ≡ true) (about c).used
-  Yes c ManyCycles = AllByRecursion (λ l. l.cycles ≤ 1073741823) (about c).labels
+  Yes c ShelfTaken = AllByRecursion (λ k. holds_step s.shelves k ≡ false) (about c).fresh
+  Yes c ShelfEmpty = AllByRecursion (λ k. holds_step s.shelves k ≡ true) (about c).used
+  Yes c ManyCycles = AllByRecursion Light (about c).labels
   Yes c BadArcs = AllByRecursion (λ arcs. (1 ≤ length arcs) × (length arcs ≤ 512) × AllByRecursion LawfulArc arcs) (about c).tables
   Yes c StateWithoutArc = AllByRecursion (λ arcs. (q : ℕ) → UpToNamed arcs q → Begins arcs q) (about c).tables
   Yes c StepsFull = (about c).builds ≡ true → length s.steps < 512

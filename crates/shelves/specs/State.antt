@@ -1,5 +1,5 @@
 -- The state of a rack, as its promises speak of it.
-use Rattle.std.specs.Prelude.{ℕ, List, None, Option, slice_index_or}
+use Rattle.std.specs.Prelude.{ℕ, Bool, List, is_some, None, Option, slice_index_or}
 use Rattle.algebra.specs.declared.arc.Arc.{Arc}
 use Rattle.algebra.specs.Model.{Model}
 use Rattle.algebra.specs.Coefficients.{Coef}
@@ -15,12 +15,19 @@ pub record ShelfState : Type 0 where
 abbrev pub empty_shelf : ShelfState
 empty_shelf = record { step = None; transient = 0; period = 1 }
 
--- what the 2,048 cells of the shelves mean, the 16 shelves, and the steps and arcs recorded, in their order
+-- shelf k of these holds a step; one past the last is empty
+abbrev pub holds_step : List ShelfState → ℕ → Bool
+holds_step shelves k = is_some (slice_index_or shelves k empty_shelf).step
+
+-- what the 2,048 cells of the shelves mean, the 16 shelves, the steps and arcs recorded, in their order, how many cells
+-- are lent, and what those from 4,096 on mean; the working cells between are free, and no promise speaks of them
 pub record State (m : Model) : Type 0 where
   pub cells : List (Coef m)
   pub shelves : List ShelfState
   pub steps : List Step
   pub arcs : List Arc
+  pub lent : ℕ
+  pub past : List (Coef m)
 
 -- shelf k
 abbrev pub shelf_at : {m : Model} → State m → ℕ → ShelfState

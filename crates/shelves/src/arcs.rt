@@ -1,13 +1,13 @@
 // The questions of a table's arcs.
 ghost use Rattle.std.specs.Prelude.{ℕ, ◌<◌, ◌≤◌, ◌⊎◌, map, Decides};
 ghost use Rattle.std.specs.List.{AllByRecursion};
-ghost use Rattle.shelves.specs.Questions.{LawfulArc, UpToNamed, Begins};
+ghost use Rattle.shelves.specs.Questions.{Light, LawfulArc, UpToNamed, Begins};
 
 use algebra::arc::{Arc, OUT};
 
 // Are the cycles of every arc within the limit?
-pub fn light(arcs: &[Arc]) -> bool
-    ensures { Decides result (AllByRecursion (λ l. l.cycles ≤ 1073741823) (map (λ a. a.label) arcs.now)) }
+pub(crate) fn light(arcs: &[Arc]) -> bool
+    ensures { Decides result (AllByRecursion Light (map (λ a. a.label) arcs.now)) }
 {
     arcs.iter().all(|arc| arc.label.allowed())
 }
@@ -20,7 +20,7 @@ fn lawful_arc(arc: Arc) -> bool
 }
 
 // Does every arc?
-pub fn lawful(arcs: &[Arc]) -> bool
+pub(crate) fn lawful(arcs: &[Arc]) -> bool
     ensures { Decides result (AllByRecursion LawfulArc arcs.now) }
 {
     arcs.iter().all(|arc| lawful_arc(*arc))
@@ -58,7 +58,7 @@ fn states(arcs: &[Arc]) -> usize
 }
 
 // Does every state up to the highest named begin an arc?
-pub fn complete(arcs: &[Arc]) -> bool
+pub(crate) fn complete(arcs: &[Arc]) -> bool
     ensures { Decides result ((q : ℕ) → UpToNamed arcs.now q → Begins arcs.now q) }
 {
     (0..states(arcs)).all(|q| begun(arcs, q))

@@ -44,7 +44,7 @@ fn ask(yes: bool, no: Refusal) -> Result<(), Refusal>
 }
 
 // The first no among the questions that come before unrolling.
-pub fn first_no<V: Algebra>(core: &Core<V>, call: Call) -> Result<(), Refusal>
+pub(crate) fn first_no<V: Algebra>(core: &Core<V>, call: Call) -> Result<(), Refusal>
     ensures { MatchResult result (λ _. CoreSaysYes V.model V.means (call_of call.entry) core.now) (λ no. CoreSaysNo V.model V.means (call_of call.entry) core.now no) }
 {
     ask(numbered(call), Refusal::NoShelf)?;

@@ -39,7 +39,7 @@ fn settle<V: Algebra>(core: &mut Core<V>, place: Place, shape: Shape, step: Step
 }
 
 // Puts a node's rows on a shelf and records its step. A pause differs in the rows written too, so it has its own function.
-pub fn put_node<V: Algebra>(core: &mut Core<V>, place: Place, label: Label)
+pub(crate) fn put_node<V: Algebra>(core: &mut Core<V>, place: Place, label: Label)
     requires { length core.old.steps.items < 512 }
     ensures { CorePuts V.model V.means (node_row V.model label) place.shelf (node_step label) [] core.old core.new }
 {
@@ -56,7 +56,7 @@ pub fn put_node<V: Algebra>(core: &mut Core<V>, place: Place, label: Label)
 }
 
 // Puts a pause's rows on a shelf and records its step.
-pub fn put_pause<V: Algebra>(core: &mut Core<V>, place: Place, label: Label)
+pub(crate) fn put_pause<V: Algebra>(core: &mut Core<V>, place: Place, label: Label)
     requires { length core.old.steps.items < 512 }
     ensures { CorePuts V.model V.means (pause_row V.model label) place.shelf (pause_step label) [] core.old core.new }
 {
@@ -73,7 +73,7 @@ pub fn put_pause<V: Algebra>(core: &mut Core<V>, place: Place, label: Label)
 }
 
 // Empties a shelf.
-pub fn empty<V: Algebra>(core: &mut Core<V>, place: Place)
+pub(crate) fn empty<V: Algebra>(core: &mut Core<V>, place: Place)
     ensures { CoreEmpties V.model V.means place.shelf core.old core.new }
 {
     blank(&mut core.cells, place);
@@ -81,7 +81,7 @@ pub fn empty<V: Algebra>(core: &mut Core<V>, place: Place)
 }
 
 // Unrolls a rule onto a shelf and records its step; the reply is the number of the first repeated situation.
-pub fn build<R: RowRule, V: Algebra>(
+pub(crate) fn build<R: RowRule, V: Algebra>(
     core: &mut Core<V>,
     rule: &R,
     place: Place,

@@ -13,6 +13,7 @@ ghost use Rattle.shelves.specs.Tables.{shelves_of};
 use crate::building::build;
 use crate::call::Pairing;
 use crate::core_state::Core;
+use crate::filled::Filled;
 use crate::refusal::Refusal;
 use crate::tables::Shelves;
 use algebra::algebra::Algebra;
@@ -28,7 +29,7 @@ use rows::table::Table;
 use runs::step::Step;
 
 // The piece on a shelf.
-pub fn piece(shelves: &Shelves, place: Place) -> Piece
+pub(crate) fn piece(shelves: &Shelves, place: Place) -> Piece
     ensures place { result.place ≡ place }
     ensures transient { result.shape.transient ≡ (slice_index_or (shelves_of shelves.now) place.shelf empty_shelf).transient }
     ensures period { result.shape.period ≡ (slice_index_or (shelves_of shelves.now) place.shelf empty_shelf).period }
@@ -39,72 +40,70 @@ pub fn piece(shelves: &Shelves, place: Place) -> Piece
     }
 }
 
-// A loop of the piece on a shelf, whose step is i.
-pub fn put_loop<V: Algebra>(core: &mut Core<V>, place: Place, i: usize) -> Result<usize, Refusal>
+// A loop of the piece on a filled shelf.
+pub(crate) fn put_loop<V: Algebra>(core: &mut Core<V>, of: Filled) -> Result<usize, Refusal>
     requires { length core.old.steps.items < 512 }
-    ensures { CoreBuilt V.model V.means (loop_rule V.model (core_rows V.model V.means core.old place.shelf)) place.shelf (loop_step i) [] core.old core.new result }
+    ensures { CoreBuilt V.model V.means (loop_rule V.model (core_rows V.model V.means core.old of.place.shelf)) of.place.shelf (loop_step of.step) [] core.old core.new result }
 {
-    let a = piece(&core.shelves, place);
-    build(core, &Repeat { a }, place, Step::Repeat { of: i })
+    let a = piece(&core.shelves, of.place);
+    build(core, &Repeat { a }, of.place, Step::Repeat { of: of.step })
 }
 
-// The pieces on shelves a and b, whose steps are i and j, put together on shelf a.
-pub fn put_pair<V: Algebra>(
+// The pieces on two filled shelves, first and second, put together on the first.
+pub(crate) fn put_pair<V: Algebra>(
     core: &mut Core<V>,
     kind: Pairing,
-    first: Place,
-    second: Place,
-    i: usize,
-    j: usize,
+    first: Filled,
+    second: Filled,
 ) -> Result<usize, Refusal>
     requires { length core.old.steps.items < 512 }
-    ensures { CoreBuilt V.model V.means (pair_rule V.model kind (core_rows V.model V.means core.old first.shelf) (core_rows V.model V.means core.old second.shelf)) first.shelf (pair_step kind i j) [] core.old core.new result }
+    ensures { CoreBuilt V.model V.means (pair_rule V.model kind (core_rows V.model V.means core.old first.place.shelf) (core_rows V.model V.means core.old second.place.shelf)) first.place.shelf (pair_step kind first.step second.step) [] core.old core.new result }
 {
-    let a = piece(&core.shelves, first);
-    let b = piece(&core.shelves, second);
+    let a = piece(&core.shelves, first.place);
+    let b = piece(&core.shelves, second.place);
     // Each kind unrolls a rule of its own type, so closures for the kinds would say as much.
     match kind {
         Pairing::Choice => build(
             core,
             &Choice { a, b },
-            first,
+            first.place,
             Step::Choice {
-                first: i,
-                second: j,
+                first: first.step,
+                second: second.step,
             },
         ),
         Pairing::Sequence => build(
             core,
             &Sequence { a, b },
-            first,
+            first.place,
             Step::Sequence {
-                first: i,
-                second: j,
+                first: first.step,
+                second: second.step,
             },
         ),
         Pairing::Fork => build(
             core,
             &Fork { a, b },
-            first,
+            first.place,
             Step::Fork {
-                first: i,
-                second: j,
+                first: first.step,
+                second: second.step,
             },
         ),
         Pairing::Abort => build(
             core,
             &Abort { h: a, a: b },
-            first,
+            first.place,
             Step::Abort {
-                first: i,
-                second: j,
+                first: first.step,
+                second: second.step,
             },
         ),
     }
 }
 
 // A table of arcs on a shelf, which are recorded with it.
-pub fn put_table<V: Algebra>(
+pub(crate) fn put_table<V: Algebra>(
     core: &mut Core<V>,
     place: Place,
     arcs: &[Arc],

@@ -10,7 +10,7 @@ use rows::cells::Cells;
 use rows::place::Place;
 
 // A node: its weight on exit at tick 0.
-pub fn write_node<V: Algebra>(cells: &mut Cells<V>, place: Place, label: Label)
+pub(crate) fn write_node<V: Algebra>(cells: &mut Cells<V>, place: Place, label: Label)
     ensures keeps { Keeps V.model (node_row V.model label) place.shelf 1 1 (meanings V.means (take 2048 cells.new.lent.now)) }
     ensures only { OnlyShelf place.shelf cells.old.lent.now cells.new.lent.now }
 {
@@ -20,7 +20,7 @@ pub fn write_node<V: Algebra>(cells: &mut Cells<V>, place: Place, label: Label)
 }
 
 // A pause: its weight on pause at tick 0, and the unit on exit at tick 1.
-pub fn write_pause<V: Algebra>(cells: &mut Cells<V>, place: Place, label: Label)
+pub(crate) fn write_pause<V: Algebra>(cells: &mut Cells<V>, place: Place, label: Label)
     ensures keeps { Keeps V.model (pause_row V.model label) place.shelf 2 1 (meanings V.means (take 2048 cells.new.lent.now)) }
     ensures only { OnlyShelf place.shelf cells.old.lent.now cells.new.lent.now }
 {
@@ -31,7 +31,7 @@ pub fn write_pause<V: Algebra>(cells: &mut Cells<V>, place: Place, label: Label)
 }
 
 // No rows: every cell of the shelf is absent.
-pub fn blank<V: Algebra>(cells: &mut Cells<V>, place: Place)
+pub(crate) fn blank<V: Algebra>(cells: &mut Cells<V>, place: Place)
     ensures blank { Blank V.model place.shelf (meanings V.means (take 2048 cells.new.lent.now)) }
     ensures only { OnlyShelf place.shelf cells.old.lent.now cells.new.lent.now }
 {

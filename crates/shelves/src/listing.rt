@@ -1,6 +1,5 @@
 // A whole list of calls, answered one after the other.
-ghost use Rattle.std.specs.Prelude.{◌≡◌, min, length, take, drop};
-ghost use Rattle.shelves.specs.Cores.{CoreAnswersAll};
+ghost use Rattle.shelves.specs.Cores.{CoreRuns};
 
 use crate::answering::answer;
 use crate::call::Call;
@@ -10,9 +9,7 @@ use algebra::algebra::Algebra;
 
 // Answers as many calls as there are replies lent for, and says how many: after any history the promise holds with them added.
 pub fn answer_all<V: Algebra>(core: &mut Core<V>, calls: &[Call], replies: &mut [Reply<V>]) -> usize
-    ensures count { result ≡ min (length calls.now) (length replies.old) }
-    ensures rest { drop result replies.new ≡ drop result replies.old }
-    ensures answers { CoreAnswersAll V.model V.means (take result calls.now) (take result replies.new) core.old core.new }
+    ensures { CoreRuns V.model V.means calls.now replies.old replies.new result core.old core.new }
 {
     let n = calls.len().min(replies.len());
     // Not a `zip`: of what is written through one, nothing is known once it ends.

@@ -1,6 +1,6 @@
 // Opening: what a rack of either kind holds at first.
-ghost use Rattle.std.specs.Prelude.{◌≡◌, ℕ, ◌<◌, ◌≤◌, length, drop, None as absent, Decides, slice_index_or};
-ghost use Rattle.shelves.specs.Cores.{CoreFresh, CoreOpens};
+ghost use Rattle.std.specs.Prelude.{◌≤◌, length, Decides};
+ghost use Rattle.shelves.specs.Cores.{CoreOpens};
 
 use crate::core_state::Core;
 use crate::tables::{Arcs, Shelves, Steps};
@@ -18,10 +18,7 @@ pub fn enough<V: Algebra>(cells: &[Option<V>]) -> bool
 // `enough` was asked, since a `Cells` would have a caller bring more than that answer.
 pub fn open<'a, V: Algebra>(cells: &'a mut [Option<V>]) -> Core<'a, V>
     requires { 4096 ≤ length cells.old }
-    ensures blank { (j : ℕ) → j < 4096 → slice_index_or result.cells.lent.now j absent ≡ absent }
-    ensures past { drop 4096 result.cells.lent.now ≡ drop 4096 cells.old }
-    ensures fresh { CoreFresh V.model V.means result }
-    ensures promise { CoreOpens V.model V.means result }
+    ensures { CoreOpens V.model V.means cells.old result }
 {
     let mut cells = Cells { lent: cells };
     cells.wipe();

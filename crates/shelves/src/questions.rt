@@ -1,11 +1,11 @@
 // The questions of a call, one function each, as each decides a clause of its own. A match names the calls that a question
 // concerns, and the others are yes. A call's shelf is any byte and no `Place`, since nothing is asked of it before.
-ghost use Rattle.std.specs.Prelude.{◌≡◌, ℕ, ◌+◌, ◌<◌, ◌≤◌, true, false, length, is_some, Decides, slice_index_or};
+ghost use Rattle.std.specs.Prelude.{◌≡◌, ℕ, ◌+◌, ◌<◌, ◌≤◌, true, false, length, Decides};
 ghost use Rattle.std.specs.List.{AllByRecursion};
 ghost use Rattle.shelves.specs.Calls.{about, named};
 ghost use Rattle.shelves.specs.Held.{call_of};
-ghost use Rattle.shelves.specs.Questions.{Distinct, LawfulArc, UpToNamed, Begins};
-ghost use Rattle.shelves.specs.State.{empty_shelf};
+ghost use Rattle.shelves.specs.Questions.{Distinct, Light, LawfulArc, UpToNamed, Begins};
+ghost use Rattle.shelves.specs.State.{holds_step};
 ghost use Rattle.shelves.specs.Tables.{shelves_of};
 
 use crate::arcs::{complete, lawful, light};
@@ -13,7 +13,7 @@ use crate::call::Call;
 use crate::tables::{Arcs, Shelves, Steps};
 
 // Is each shelf number at most 15?
-pub fn numbered(call: Call) -> bool
+pub(crate) fn numbered(call: Call) -> bool
     ensures { Decides result (AllByRecursion (λ k. k ≤ 15) (named (call_of call.entry))) }
 {
     match call {
@@ -28,7 +28,7 @@ pub fn numbered(call: Call) -> bool
 }
 
 // Do two named shelves differ?
-pub fn apart(call: Call) -> bool
+pub(crate) fn apart(call: Call) -> bool
     ensures { Decides result (Distinct (named (call_of call.entry))) }
 {
     match call {
@@ -39,14 +39,14 @@ pub fn apart(call: Call) -> bool
 
 // Is shelf k filled?
 fn filled(shelves: &Shelves, k: u8) -> bool
-    ensures { result ≡ is_some (slice_index_or (shelves_of shelves.now) k empty_shelf).step }
+    ensures { result ≡ holds_step (shelves_of shelves.now) k }
 {
     shelves.at(k as usize).step.is_some()
 }
 
 // Is a new leaf's shelf empty?
-pub fn vacant(shelves: &Shelves, call: Call) -> bool
-    ensures { Decides result (AllByRecursion (λ k. is_some (slice_index_or (shelves_of shelves.now) k empty_shelf).step ≡ false) (about (call_of call.entry)).fresh) }
+pub(crate) fn vacant(shelves: &Shelves, call: Call) -> bool
+    ensures { Decides result (AllByRecursion (λ k. holds_step (shelves_of shelves.now) k ≡ false) (about (call_of call.entry)).fresh) }
 {
     match call {
         Call::Node { shelf, .. } | Call::Pause { shelf, .. } | Call::Table { shelf, .. } => {
@@ -57,8 +57,8 @@ pub fn vacant(shelves: &Shelves, call: Call) -> bool
 }
 
 // Is each shelf that another call names filled?
-pub fn occupied(shelves: &Shelves, call: Call) -> bool
-    ensures { Decides result (AllByRecursion (λ k. is_some (slice_index_or (shelves_of shelves.now) k empty_shelf).step ≡ true) (about (call_of call.entry)).used) }
+pub(crate) fn occupied(shelves: &Shelves, call: Call) -> bool
+    ensures { Decides result (AllByRecursion (λ k. holds_step (shelves_of shelves.now) k ≡ true) (about (call_of call.entry)).used) }
 {
     match call {
         Call::Pair { first, second, .. } => filled(shelves, first) && filled(shelves, second),
@@ -70,7 +70,7 @@ pub fn occupied(shelves: &Shelves, call: Call) -> bool
 }
 
 // Are fewer than 512 steps recorded?
-pub fn recordable(steps: &Steps, call: Call) -> bool
+pub(crate) fn recordable(steps: &Steps, call: Call) -> bool
     ensures { Decides result ((about (call_of call.entry)).builds ≡ true → length steps.now.items < 512) }
 {
     match call {
@@ -80,8 +80,8 @@ pub fn recordable(steps: &Steps, call: Call) -> bool
 }
 
 // Are all cycles within the limit?
-pub fn measured(call: Call) -> bool
-    ensures { Decides result (AllByRecursion (λ l. l.cycles ≤ 1073741823) (about (call_of call.entry)).labels) }
+pub(crate) fn measured(call: Call) -> bool
+    ensures { Decides result (AllByRecursion Light (about (call_of call.entry)).labels) }
 {
     match call {
         Call::Node { label, .. } | Call::Pause { label, .. } => label.allowed(),
@@ -91,7 +91,7 @@ pub fn measured(call: Call) -> bool
 }
 
 // Has a table 1 to 512 arcs, each from a state to a state or out?
-pub fn tabular(call: Call) -> bool
+pub(crate) fn tabular(call: Call) -> bool
     ensures { Decides result (AllByRecursion (λ arcs. (1 ≤ length arcs) × (length arcs ≤ 512) × AllByRecursion LawfulArc arcs) (about (call_of call.entry)).tables) }
 {
     match call {
@@ -101,7 +101,7 @@ pub fn tabular(call: Call) -> bool
 }
 
 // Does every state of a table, up to the highest named, begin an arc?
-pub fn going(call: Call) -> bool
+pub(crate) fn going(call: Call) -> bool
     ensures { Decides result (AllByRecursion (λ arcs. (q : ℕ) → UpToNamed arcs q → Begins arcs q) (about (call_of call.entry)).tables) }
 {
     match call {
@@ -111,7 +111,7 @@ pub fn going(call: Call) -> bool
 }
 
 // Do a table's arcs fit with those recorded?
-pub fn roomy(recorded: &Arcs, call: Call) -> bool
+pub(crate) fn roomy(recorded: &Arcs, call: Call) -> bool
     ensures { Decides result (AllByRecursion (λ arcs. length recorded.now.items + length arcs ≤ 512) (about (call_of call.entry)).tables) }
 {
     match call {

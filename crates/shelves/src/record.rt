@@ -10,7 +10,7 @@ use rows::shape::Shape;
 
 impl Shelf {
     // No step, transient 0 and period 1.
-    pub fn empty() -> Shelf
+    pub(crate) fn empty() -> Shelf
         ensures { shelf_of result ≡ empty_shelf }
     {
         Shelf {
@@ -24,7 +24,7 @@ impl Shelf {
 }
 
 impl Shelves {
-    pub fn new() -> Shelves
+    pub(crate) fn new() -> Shelves
         ensures { shelves_of result ≡ replicate 16 empty_shelf }
     {
         Shelves {
@@ -33,7 +33,7 @@ impl Shelves {
     }
 
     // Shelf k; one past 15 reads as empty.
-    pub fn at(&self, k: usize) -> Shelf
+    pub(crate) fn at(&self, k: usize) -> Shelf
         ensures { shelf_of result ≡ slice_index_or (shelves_of self.now) k empty_shelf }
     {
         if k < 16 {
@@ -43,7 +43,7 @@ impl Shelves {
         }
     }
 
-    pub fn put(&mut self, place: Place, shelf: Shelf)
+    pub(crate) fn put(&mut self, place: Place, shelf: Shelf)
         ensures { shelves_of self.new ≡ slice_set (shelves_of self.old) place.shelf (shelf_of shelf) }
     {
         self.items[place.shelf] = shelf;

@@ -1,9 +1,9 @@
 // A rack whose calls take tickets. At another rack a ticket is only a number, so every question is asked all the same.
-ghost use Rattle.std.specs.Prelude.{◌≡◌, ℕ, ◌<◌, ◌≤◌, min, [], ◌∷◌, length, take, drop, IfOk, IfErr, None as absent, MatchResult, OnErr, slice_index_or};
+ghost use Rattle.std.specs.Prelude.{◌≡◌, ◌≤◌, [], ◌∷◌, length, IfOk, IfErr, MatchResult, OnErr};
 ghost use Rattle.shelves.specs.declared.call.Pairing.TheVariants as kind;
 ghost use Rattle.shelves.specs.Calls.{node as node_call, pause as pause_call, table as table_call, loop as loop_call, clear as clear_call, report as report_call};
 ghost use Rattle.shelves.specs.Changing.{Changing};
-ghost use Rattle.shelves.specs.Cores.{CoreFresh, CoreOpens, CoreAnswers, CoreAnswersAll};
+ghost use Rattle.shelves.specs.Cores.{CoreOpens, CoreAnswers, CoreRuns};
 ghost use Rattle.shelves.specs.Filling.{filled_by};
 ghost use Rattle.shelves.specs.Held.{call_of};
 ghost use Rattle.shelves.specs.Told.{shown};
@@ -34,10 +34,7 @@ impl<'a, V: Algebra> TicketRack<'a, V> {
     // A new rack over lent cells, after `enough` said yes of them. The history begins.
     pub fn open(cells: &'a mut [Option<V>]) -> TicketRack<'a, V>
         requires { 4096 ≤ length cells.old }
-        ensures blank { (j : ℕ) → j < 4096 → slice_index_or result.core.cells.lent.now j absent ≡ absent }
-        ensures past { drop 4096 result.core.cells.lent.now ≡ drop 4096 cells.old }
-        ensures fresh { CoreFresh V.model V.means result.core }
-        ensures promise { CoreOpens V.model V.means result.core }
+        ensures { CoreOpens V.model V.means cells.old result.core }
     {
         TicketRack { core: open(cells) }
     }
@@ -157,9 +154,7 @@ impl<'a, V: Algebra> TicketRack<'a, V> {
 
     // A whole list of calls, by the shelves that tickets would name, as many as there are replies lent for, and how many.
     pub fn run(&mut self, calls: &[Call], replies: &mut [Reply<V>]) -> usize
-        ensures count { result ≡ min (length calls.now) (length replies.old) }
-        ensures rest { drop result replies.new ≡ drop result replies.old }
-        ensures answers { CoreAnswersAll V.model V.means (take result calls.now) (take result replies.new) self.old.core self.new.core }
+        ensures { CoreRuns V.model V.means calls.now replies.old replies.new result self.old.core self.new.core }
     {
         answer_all(&mut self.core, calls, replies)
     }

@@ -1,11 +1,11 @@
-use Rattle.std.proofs.Common.{[], ◌∷◌, sym, ap, ◌∙◌}
+use Rattle.std.proofs.Common.{[], ◌∷◌}
 use Rattle.std.proofs.lemmas.Result.{err_from_is_err_and}
 use Rattle.shelves.specs.declared.refusal.Refusal.TheVariants.{NeverRepeats, TooLong}
 use Rattle.shelves.specs.Calls.{pair}
 use Rattle.shelves.specs.Held.{state_of}
 use Rattle.shelves.specs.Questions.{Yes, pair_rule}
 use Rattle.shelves.specs.Refusals.{early}
-use Rattle.shelves.specs.State.{ShelfState, shelf_rows}
+use Rattle.shelves.specs.State.{shelf_rows}
 use Rattle.shelves.proofs.Asking.{all_then, no_after, stop_no, turn_yes}
 use Rattle.shelves.proofs.acting.act_pair.Goals as goal
 
@@ -15,18 +15,14 @@ returns-in_err-number g c =
     let s = state_of m g.V.Algebra.means c.args.core.now in
     let p = err_from_is_err_and c.from_residual.result c.from_residual.ensures.1 in
     let no = c.in_err-number.field-0.0 in
-    let found = rw (c.place-a.ensures, c.place-b.ensures) at c.in_err-number.ensures in
+    let found = rw (c.filled_shelf-a.ensures.place, c.filled_shelf-b.ensures.place) at c.in_err-number.ensures in
     rw (p.1, p.2) (no_after (Yes m s (pair c.args.kind c.args.first c.args.second)) early (NeverRepeats ∷ TooLong ∷ []) no c.requires (stop_no (pair_rule m c.args.kind (shelf_rows s c.args.first) (shelf_rows s c.args.second)) no found.0), found.1)
 
 pub returns : goal.returns
 returns g c =
     let m = g.V.Algebra.model in
     let s = state_of m g.V.Algebra.means c.args.core.now in
-    let done = rw (c.place-a.ensures, c.place-b.ensures) at c.in_ok-number.ensures in
-    let at = ap (λ (x : ShelfState). x.step) (rw c.place-a.ensures at c.at.ensures) in
-    let at_2 = ap (λ (x : ShelfState). x.step) (rw c.place-b.ensures at c.at-2.ensures) in
-    let first = sym at ∙ c.unwrap-i.ensures in
-    let second = sym at_2 ∙ c.unwrap-j.ensures in (
+    let done = rw (c.filled_shelf-a.ensures.place, c.filled_shelf-b.ensures.place) at c.in_ok-number.ensures in (
       all_then (Yes m s (pair c.args.kind c.args.first c.args.second)) early (NeverRepeats ∷ TooLong ∷ []) c.requires (turn_yes (pair_rule m c.args.kind (shelf_rows s c.args.first) (shelf_rows s c.args.second)) _ _ _ _ _ _ done.0 done.1),
-      (done.0, (c.unwrap-i.result, c.unwrap-j.result, state_of m g.V.Algebra.means c.put_pair.new.core, first, second, done.1, rw c.place-b.ensures at c.empty.ensures)),
+      (done.0, (c.filled_shelf-a.result.step, c.filled_shelf-b.result.step, state_of m g.V.Algebra.means c.put_pair.new.core, c.filled_shelf-a.ensures.step, c.filled_shelf-b.ensures.step, done.1, rw c.filled_shelf-b.ensures.place at c.empty.ensures)),
     )

@@ -1,4 +1,4 @@
-use Rattle.std.proofs.Common.{List, get_or, take, None, sym, refl, ap, ◌∙◌, subst}
+use Rattle.std.proofs.Common.{List, length, get_or, take, drop, None, sym, refl, ap, ◌∙◌, subst}
 use Rattle.std.proofs.lemmas.Result.{err_from_is_err_and}
 use Rattle.std.proofs.lemmas.List.{append-nil}
 use Rattle.algebra.specs.Coefficients.{Coef}
@@ -9,7 +9,7 @@ use Rattle.shelves.specs.Effects.{OfShelf}
 use Rattle.shelves.specs.Tables.{shelves_of}
 use Rattle.shelves.proofs.LeafRows.{apart}
 use Rattle.shelves.proofs.Stopping.{stopped}
-use Rattle.shelves.proofs.Unchanged.{others_mean}
+use Rattle.shelves.proofs.Unchanged.{others_mean, same_length}
 use Rattle.shelves.proofs.building.build.Goals as goal
 
 pub returns : goal.returns
@@ -38,6 +38,8 @@ returns g c =
           shelves = c.settle.ensures.shelves;
           steps = c.settle.ensures.steps;
           arcs = ap (λ a. a.items) c.settle.ensures.arcs ∙ sym (append-nil core.arcs.items);
+          lent = ap length is ∙ same_length 4096 core.cells.lent.now c.unroll.new.cells.lent.now core.cells.room c.unroll.new.cells.room c.in_ok-unrolled.ensures.past;
+          past = ap (meanings f) (ap (drop 4096) is ∙ c.in_ok-unrolled.ensures.past);
         },
       );
       arcs = c.settle.ensures.arcs;
@@ -53,10 +55,12 @@ returns-in_err-unrolled g c =
     let no = c.in_err-unrolled.field-0.0 in
     let refusal = c.in_err-unrolled.ensures.cases in
     let same = ap (meanings f) refusal.1 in
+    let lent = same_length 4096 core.cells.lent.now c.unroll.new.cells.lent.now core.cells.room c.unroll.new.cells.room c.in_err-unrolled.ensures.past in
+    let past = ap (meanings f) c.in_err-unrolled.ensures.past in
     record {
       does = rw (p.1, p.2) (
         stopped (over (meanings f (take 2048 core.cells.lent.now))) no refusal.0,
-        λ i. record { cells = same i; shelves = shelves_of core.shelves; steps = core.steps.items; arcs = core.arcs.items },
+        λ i. record { cells = same i; shelves = shelves_of core.shelves; steps = core.steps.items; arcs = core.arcs.items; lent = lent i; past = past i },
       );
       arcs = refl;
     }

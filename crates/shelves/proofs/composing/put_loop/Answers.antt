@@ -13,5 +13,5 @@ returns g c =
     let core = c.args.core.now in
     let cells = meanings f (take 2048 core.cells.lent.now) in
     let a = c.piece-a.ensures in
-    subst (λ (A : Rows m). Built m (loop m A) c.args.place.shelf (Repeat c.args.i) [] (state_of m f core) (state_of m f c.build.new.core) c.build.result)
+    subst (λ (A : Rows m). Built m (loop m A) c.args.of.place.shelf (Repeat c.args.of.step) [] (state_of m f core) (state_of m f c.build.new.core) c.build.result)
     (λ i. on_shelf m cells (a.place i).shelf (a.transient i) (a.period i)) c.build.ensures.does

@@ -1,5 +1,5 @@
 use Rattle.std.proofs.Common.{rules, ◌≡◌, ℕ, ◌<◌, List, ◌++◌, map, length, take, drop, sym, ap, ◌∙◌, subst, subst₂, arith}
-use Rattle.std.proofs.lemmas.List.{take-append-le, length-take-le}
+use Rattle.std.proofs.lemmas.List.{take-append-le, length-take-le, drop_at}
 use Rattle.shelves.specs.Calls.{Event}
 use Rattle.shelves.specs.Effects.{DoesAll}
 use Rattle.shelves.specs.Held.{state_of, call_of}
@@ -36,8 +36,8 @@ loop-i-preserved g c =
       does_more m call_of (reply_of m f) calls replies i _ reply s _ after within room c.loop-i.invariant.1 c.answer.ensures.does,
     )
 
-pub returns-clause-answers : goal.returns-clause-answers
-returns-clause-answers g c =
+pub returns : goal.returns
+returns g c =
     let m = g.V.Algebra.model in
     let f = g.V.Algebra.means in
     let n = c.min-n.result in
@@ -51,7 +51,11 @@ returns-clause-answers g c =
     let made_after : (h : List (Event m)) → Made m h s → Made m (after_calls m (map call_of (take n calls)) (map (reply_of m f) (take n (replies ++ drop n c.args.replies.now))) h) after =
     λ h made. subst₂ (λ (j : ℕ) rs. Made m (after_calls m (map call_of (take j calls)) (map (reply_of m f) rs) h) after) all whole (c.loop-i.invariant.0 h made) in
     record {
-      does = subst₂ (λ (j : ℕ) rs. DoesAll m (map call_of (take j calls)) (map (reply_of m f) rs) s after) all whole c.loop-i.invariant.1;
-      made = made_after;
-      kept = λ h made. kept m (laws_of g.world g.met.V.Algebra) g.met.V.Algebra.chosen (made_after h made);
+      count = search rules;
+      rest = drop_at replies (drop n c.args.replies.now) n (omega arith);
+      answers = record {
+        does = subst₂ (λ (j : ℕ) rs. DoesAll m (map call_of (take j calls)) (map (reply_of m f) rs) s after) all whole c.loop-i.invariant.1;
+        made = made_after;
+        kept = λ h made. kept m (laws_of g.world g.met.V.Algebra) g.met.V.Algebra.chosen (made_after h made);
+      };
     }

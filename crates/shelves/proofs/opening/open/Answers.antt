@@ -1,7 +1,7 @@
 use Rattle.shelves.specs.Promise.{Fresh}
 use Rattle.shelves.proofs.AlgebraLaws.{laws_of}
 use Rattle.shelves.proofs.Histories.{opening}
-use Rattle.shelves.proofs.Unchanged.{blank_mean}
+use Rattle.shelves.proofs.Unchanged.{blank_mean, same_length}
 use Rattle.shelves.proofs.opening.open.Goals as goal
 
 pub returns : goal.returns
@@ -16,6 +16,7 @@ returns g c =
     record {
       blank = c.wipe.ensures.blank;
       past = c.wipe.ensures.past;
+      lent = same_length 4096 c.args.cells.now c.wipe.new.self.lent.now c.requires c.wipe.new.self.room c.wipe.ensures.past;
       fresh = fresh;
       promise = opening m (laws_of g.world g.met.V.Algebra) g.met.V.Algebra.chosen _ fresh;
     }

@@ -5,16 +5,17 @@ use Rattle.std.specs.Option.{option_map}
 use Rattle.std.proofs.lemmas.Iterator.{YieldsList-from_range, YieldsList-from_map_by}
 use Rattle.std.proofs.lemmas.List.Folds.{fold-map}
 use Rattle.algebra.specs.Coefficients.{join}
-use Rattle.rows.specs.Pieces.{rows_of, meanings, pause_at, exit_at}
+use Rattle.rows.specs.Pieces.{pause_at, exit_at}
 use Rattle.rows.proofs.Folds.{fold_read, fold-range}
 use Rattle.runs.specs.Joined.{joins}
-use Rattle.shelves.proofs.telling.figure.Goals as goal
+use Rattle.shelves.specs.Told.{given}
+use Rattle.shelves.proofs.telling.Shown.figure.Goals as goal
 
 pub returns : goal.returns
 returns g c =
     let m = g.V.Algebra.model in
     let f = g.V.Algebra.means in
-    let rows = rows_of m (meanings f c.args.kept.now.cells.now) c.args.piece.now in
+    let rows = given m f c.args.self.now in
     let both = λ (n : ℕ). join m (pause_at rows n) (exit_at rows n) in
     let n = c.size.result in
     fold_read _ (option_map f) (join m) _ _ c.fold.ensures.ran

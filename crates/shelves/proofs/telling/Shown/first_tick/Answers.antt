@@ -3,9 +3,10 @@ use borrow.Author.Tests.{tests}
 use Rattle.std.specs.Option.{option_map}
 use Rattle.std.proofs.lemmas.Iterator.{first_from_Range}
 use Rattle.algebra.specs.Coefficients.{join}
-use Rattle.rows.specs.Pieces.{rows_of, meanings, pause_at, exit_at}
+use Rattle.rows.specs.Pieces.{pause_at, exit_at}
+use Rattle.shelves.specs.Told.{given}
 use Rattle.shelves.proofs.Reaching.{reached}
-use Rattle.shelves.proofs.telling.first_tick.Goals as goal
+use Rattle.shelves.proofs.telling.Shown.first_tick.Goals as goal
 
 -- the first number below n at which f is x, or None where there is none
 abbrev First : {X : Type 0} (f : ℕ → X) (x : X) (n : ℕ) → Option ℕ → Type 0
@@ -19,7 +20,7 @@ some_found f x n (Some i) first some = search rules
 pub unwrap-requires : goal.unwrap-requires
 unwrap-requires g c =
     let m = g.V.Algebra.model in
-    let rows = rows_of m (meanings g.V.Algebra.means c.args.kept.now.cells.now) c.args.piece.now in
+    let rows = given m g.V.Algebra.means c.args.self.now in
     let both = λ (n : ℕ). join m (pause_at rows n) (exit_at rows n) in
     let figure = option_map g.V.Algebra.means c.args.figure in
     let found : First both figure c.size.result c.find.result = first_from_Range _ _ _ _ _ _ c.find.ensures.ran (λ x q k. search (rules, tests)) (λ x q k. search (rules, tests)) in
@@ -29,7 +30,7 @@ unwrap-requires g c =
 pub returns : goal.returns
 returns g c =
     let m = g.V.Algebra.model in
-    let rows = rows_of m (meanings g.V.Algebra.means c.args.kept.now.cells.now) c.args.piece.now in
+    let rows = given m g.V.Algebra.means c.args.self.now in
     let both = λ (n : ℕ). join m (pause_at rows n) (exit_at rows n) in
     let figure = option_map g.V.Algebra.means c.args.figure in
     let found : First both figure c.size.result c.find.result = first_from_Range _ _ _ _ _ _ c.find.ensures.ran (λ x q k. search (rules, tests)) (λ x q k. search (rules, tests)) in
