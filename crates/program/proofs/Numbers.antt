@@ -1,6 +1,11 @@
 -- Lists of bytes by their first places, and the number that two bytes spell.
-use Rattle.std.proofs.Common.{◌≡◌, ℕ, zero, suc, ◌+◌, ◌*◌, ◌/◌, ◌%◌, ◌<◌, ◌≤◌, List, [], ◌∷◌, ◌++◌, length, get_or, drop, sym, ap, ◌∙◌, add-zero, arith, drop-cons}
+use Rattle.std.proofs.Common.{◌≡◌, ℕ, zero, suc, ◌+◌, ◌*◌, ◌/◌, ◌%◌, ◌<◌, ◌≤◌, List, [], ◌∷◌, ◌++◌, length, get_or, drop, sym, ap, ◌∙◌, subst, add-zero, arith, drop-cons}
+use Rattle.std.proofs.lemmas.List.{get_or-drop}
 use Rattle.program.specs.Format.{two}
+
+-- each place holds a byte
+abbrev pub Bytes : List ℕ → Type 0
+Bytes bs = (i : ℕ) → get_or bs i 0 < 256
 
 -- what stands at n places from place i on
 abbrev pub places : (n i : ℕ) → List ℕ → List ℕ
@@ -17,6 +22,14 @@ from_place (suc n) i bs h =
 -- a list is its first n places and the rest
 pub begins : (n : ℕ) (bs : List ℕ) → n ≤ length bs → bs ≡ places n 0 bs ++ drop n bs
 begins n bs h = from_place n 0 bs (omega arith) ∙ ap (λ (k : ℕ). places n 0 bs ++ drop k bs) (omega arith)
+
+pub places_bytes : (n i : ℕ) (bs : List ℕ) → Bytes bs → Bytes (places n i bs)
+places_bytes zero i bs byte j = omega arith
+places_bytes (suc n) i bs byte zero = byte i
+places_bytes (suc n) i bs byte (suc j) = places_bytes n (suc i) bs byte j
+
+pub bytes_after : (n : ℕ) (bs : List ℕ) → Bytes bs → Bytes (drop n bs)
+bytes_after n bs byte i = subst (λ (b : ℕ). b < 256) (sym (get_or-drop n bs i 0)) (byte (n + i))
 
 -- the two bytes of the number that two bytes spell are those two
 pub two_spelled : (a b : ℕ) → a < 256 → b < 256 → two (a + b * 256) ≡ a ∷ b ∷ []

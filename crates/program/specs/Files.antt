@@ -15,3 +15,8 @@ pub data Listed : List ℕ → List Entry → Option Refusal → Type 0 where
 pub record Holds (bs : List ℕ) (es : List Entry) (why : Option Refusal) : Type 0 where
   pub within : length bs ≤ 32768 → Listed bs es why
   pub large : 32768 < length bs → (es ≡ []) × (why ≡ Some Large)
+
+-- only a file that is not refused whole, and begins with a record, asks for memory: the empty one does not
+pub record AsksMemory (bs : List ℕ) : Type 0 where
+  pub within : length bs ≤ 32768
+  pub begins : (e : Entry) × (rest : List ℕ) × Spells bs e rest

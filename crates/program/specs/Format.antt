@@ -120,12 +120,12 @@ Refuses Cut bs = Framed bs → ⊥
 Refuses Unknown bs = Framed bs × ((k : Kind) → kind_in bs ≢ number k)
 Refuses Misfit bs = Framed bs × ((k : Kind) × (kind_in bs ≡ number k) × (length_in bs ≢ due k (count_in bs)))
 
--- why no record is read from these bytes: they are refused, or there is no memory for it
+-- why no record is read from these bytes: they are refused, or they spell a table and there is no memory for its arcs
 abbrev pub Stops : Fault → List ℕ → Type 0
 Stops (Refused why) bs = Refuses why bs
-Stops Memory bs = Unit {0}
+Stops Memory bs = (shelf : ℕ) × (arcs : List Arc) × (rest : List ℕ) × Spells bs (table shelf arcs) rest
 
--- why an entry is not written: two bytes do not hold its length, or there is no memory for its bytes
+-- why an entry is not written: two bytes do not hold its length, or they do and there is no memory for its bytes
 abbrev pub Resists : Unwritten → Entry → Type 0
 Resists unwritten.Long e = 65536 ≤ long e
-Resists unwritten.Memory e = Unit {0}
+Resists unwritten.Memory e = long e < 65536

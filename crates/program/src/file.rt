@@ -1,7 +1,7 @@
 // Reads a whole file: its records up to the end, or up to the first one that is refused.
-ghost use Rattle.std.specs.Prelude.{map, IfOk};
+ghost use Rattle.std.specs.Prelude.{map, MatchResult};
 ghost use Rattle.program.specs.Entries.{entry};
-ghost use Rattle.program.specs.Files.{Holds};
+ghost use Rattle.program.specs.Files.{Holds, AsksMemory};
 
 use crate::fault::Fault;
 use crate::read::read;
@@ -21,7 +21,7 @@ pub struct Listing {
 }
 
 pub fn list(heap: Global, bytes: &[u8]) -> Result<Listing, AllocError>
-    ensures { IfOk result (λ l. Holds bytes.now (map entry l.records.items) l.refusal) }
+    ensures { MatchResult result (λ l. Holds bytes.now (map entry l.records.items) l.refusal) (λ e. AsksMemory bytes.now) }
 {
     let mut records = Vec::new(heap);
     if bytes.len() > MOST_BYTES {

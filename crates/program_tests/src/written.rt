@@ -6,6 +6,7 @@ use algebra::ports::Ports;
 use algebra::worst::Worst;
 use program::file::list;
 use program::record::Record;
+use program::unwritten::Unwritten;
 use program::weights::{count, weight};
 use program::write::write;
 use std::alloc::Global;
@@ -78,6 +79,6 @@ fn most_arcs(rt: HostRuntime) -> Result<(), Fail> {
     let most = with_arcs(heap, 6552)?;
     assert_eq!(rt; write(heap, &most)?.len(), 65_527);
     let more = with_arcs(heap, 6553)?;
-    assert!(rt; write(heap, &more).is_err());
+    assert!(rt; matches!(write(heap, &more), Err(Unwritten::Long)));
     Ok(())
 }
