@@ -2,6 +2,7 @@ pub mod Elements
 pub mod Present
 pub mod LeafRows
 pub mod Unchanged
+pub mod Settled
 pub mod Stopping
 pub mod ShelfCells
 pub mod Alive
