@@ -6,7 +6,7 @@ use Rattle.algebra.specs.Model.{Model}
 use Rattle.program.specs.Entries.{Entry}
 use Rattle.shelves.specs.Calls.{accepted, refused, Event}
 use Rattle.shelves.specs.Effects.{Does}
-use Rattle.shelves.specs.Promise.{Made, more}
+use Rattle.shelves.specs.History.{Made, more}
 use Rattle.shelves.specs.Questions.{Yes, FirstNo}
 use Rattle.shelves.specs.Refusals.{order}
 use Rattle.shelves.specs.State.{State}

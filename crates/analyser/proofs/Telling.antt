@@ -8,7 +8,8 @@ use Rattle.program.specs.Entries.{Entry}
 use Rattle.runs.specs.Plan.{Plan}
 use Rattle.shelves.specs.Book.{book}
 use Rattle.shelves.specs.Calls.{Report}
-use Rattle.shelves.specs.Promise.{Fresh, new, AsBooked}
+use Rattle.shelves.specs.History.{Fresh, new}
+use Rattle.shelves.specs.Promise.{AsBooked}
 use Rattle.shelves.specs.State.{State, shelf_at}
 use Rattle.analyser.specs.declared.fault.Fault.{Fault}
 use Rattle.analyser.specs.Files.{Takes, Sole, Works, Tells}

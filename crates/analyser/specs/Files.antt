@@ -11,7 +11,8 @@ use Rattle.shelves.specs.declared.refusal.Refusal.TheVariants.{FewCells}
 use Rattle.shelves.specs.declared.report.Report.{Report as Held}
 use Rattle.shelves.specs.Calls.{Report, report, accepted, reported}
 use Rattle.shelves.specs.Effects.{Does}
-use Rattle.shelves.specs.Promise.{Fresh, Figured, Answers}
+use Rattle.shelves.specs.History.{Fresh}
+use Rattle.shelves.specs.Promise.{Figured, Answers}
 use Rattle.shelves.specs.Questions.{Yes, FirstNo}
 use Rattle.shelves.specs.Refusals.{order}
 use Rattle.shelves.specs.State.{State, shelf_at}

@@ -9,7 +9,8 @@ use Rattle.shelves.specs.declared.call.Pairing.TheVariants.{Fork}
 use Rattle.shelves.specs.declared.refusal.Refusal.{Refusal}
 use Rattle.shelves.specs.declared.report.Report.{Report}
 use Rattle.shelves.specs.Calls.{table, pair, report, accepted, Event}
-use Rattle.shelves.specs.Promise.{Made, Answers, Figured}
+use Rattle.shelves.specs.History.{Made}
+use Rattle.shelves.specs.Promise.{Answers, Figured}
 use Rattle.shelves.specs.State.{State}
 use Rattle.shelves.specs.Told.{report_of, shown}
 use Rattle.by_ticket.specs.Threads.{side_by_side, HoldsPlan}

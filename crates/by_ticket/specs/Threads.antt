@@ -8,7 +8,7 @@ use Rattle.runs.specs.Plan as plan
 use Rattle.runs.specs.Plan.{Plan}
 use Rattle.shelves.specs.Book.{book}
 use Rattle.shelves.specs.Calls.{Event}
-use Rattle.shelves.specs.Promise.{Made}
+use Rattle.shelves.specs.History.{Made}
 use Rattle.shelves.specs.State.{State}
 
 -- two tables, forked

@@ -4,7 +4,7 @@ ghost use Rattle.shelves.specs.declared.call.Pairing.TheVariants as kind;
 ghost use Rattle.shelves.specs.Calls.{pair, accepted, Event};
 ghost use Rattle.shelves.specs.Cores.{CoreAnswers};
 ghost use Rattle.shelves.specs.Held.{state_of};
-ghost use Rattle.shelves.specs.Promise.{Made};
+ghost use Rattle.shelves.specs.History.{Made};
 ghost use Rattle.tickets.specs.Tickets.{NamesIn};
 ghost use Rattle.by_ticket.specs.Threads.{side_by_side, HoldsPlan};
 

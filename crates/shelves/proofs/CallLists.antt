@@ -4,7 +4,7 @@ use Rattle.std.proofs.lemmas.List.{map_push, take_more, take_more_set, length-ma
 use Rattle.algebra.specs.Model.{Model}
 use Rattle.shelves.specs.Calls.{Call, Reply, Event}
 use Rattle.shelves.specs.Effects.{Does, DoesAll}
-use Rattle.shelves.specs.Promise.{after_calls}
+use Rattle.shelves.specs.Lists.{after_calls}
 use Rattle.shelves.specs.State.{State}
 
 module _ (m : Model) where

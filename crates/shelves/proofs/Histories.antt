@@ -8,7 +8,9 @@ use Rattle.runs.proofs.Rules.Lasting.{there as present_is}
 use Rattle.shelves.specs.Book.{Pages, book}
 use Rattle.shelves.specs.Calls.{Call, node, pause, table, pair, loop, clear, report, Reply, accepted, reported, refused, Event}
 use Rattle.shelves.specs.Effects.{Does}
-use Rattle.shelves.specs.Promise.{Fresh, Made, new, more, Replies, Answered, AsBooked, Told, AllTold, Kept, Promise, Opening, Answers}
+use Rattle.shelves.specs.History.{Fresh, Made, new, more, Replies, Answered}
+use Rattle.shelves.specs.Lists.{Promise, Opening}
+use Rattle.shelves.specs.Promise.{AsBooked, Told, AllTold, Kept, Answers}
 use Rattle.shelves.specs.State.{State, empty_shelf, shelf_at}
 use Rattle.shelves.proofs.EachCall.{find, call_keeps}
 use Rattle.shelves.proofs.Invariant.{PagedAt, Inv}

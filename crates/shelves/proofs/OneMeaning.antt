@@ -7,7 +7,7 @@ use Rattle.runs.specs.Plan.{Plan}
 use Rattle.runs.specs.Runs.{paused, left}
 use Rattle.runs.proofs.Joined.{unique}
 use Rattle.runs.proofs.OneShape.{one_keeping}
-use Rattle.shelves.specs.Promise.{SameShelves, SameWeights}
+use Rattle.shelves.specs.Meaning.{SameShelves, SameWeights}
 use Rattle.shelves.specs.State.{State, shelf_at, shelf_rows}
 use Rattle.shelves.proofs.Invariant.{Sound}
 

@@ -1,9 +1,10 @@
 -- What a call does, by its reply: the state afterwards as equations.
-use Rattle.std.specs.Prelude.{◌≡◌, ℕ, zero, suc, ◌+◌, ◌*◌, ◌<◌, ◌≤◌, Bool, true, false, ◌≢◌, List, [], ◌∷◌, ◌++◌, length, drop, Some, None, Option, slice_index_or, slice_set}
+use Rattle.std.specs.Prelude.{◌≡◌, ℕ, zero, suc, ◌+◌, ◌*◌, ◌<◌, ◌≤◌, Bool, true, false, ◌≢◌, List, [], ◌∷◌, ◌++◌, length, Some, None, Option, slice_index_or, slice_set}
 use Rattle.algebra.specs.declared.arc.Arc.{Arc}
 use Rattle.algebra.specs.declared.label.Label.{Label}
 use Rattle.algebra.specs.Model.{Model}
 use Rattle.algebra.specs.Coefficients.{Coef, join}
+use Rattle.rows.specs.Filled.{SamePast}
 use Rattle.rows.specs.Pieces.{Rows, size, pause_at, exit_at}
 use Rattle.rows.specs.Repeats.{FirstRepeat}
 use Rattle.rows.specs.Rules.Rule.{Rule, at, rows}
@@ -45,7 +46,7 @@ OfShelf k j = (128 * k ≤ j) × (j < 128 * k + 128)
 -- of the lent cells, only those of shelf k and the working cells may have changed
 pub record OnlyShelf {X : Type 0} (k : ℕ) (before after : List (Option X)) : Type 0 where
   pub others : (j : ℕ) → j < 2048 → (OfShelf k j → ⊥) → slice_index_or after j None ≡ slice_index_or before j None
-  pub past : drop 4096 after ≡ drop 4096 before
+  pub past : SamePast before after
 
 module _ (m : Model) where
   -- the cells of shelf k are all absent
@@ -120,12 +121,7 @@ module _ (m : Model) where
   -- report is the call that is answered by a report
   abbrev pub Tells : Call → Report m → State m → Type 0
   Tells (report k) r s = Reports (shelf_rows s k) r
-  Tells (node k l) r s = ⊥
-  Tells (pause k l) r s = ⊥
-  Tells (table k new) r s = ⊥
-  Tells (pair kind a b) r s = ⊥
-  Tells (loop k) r s = ⊥
-  Tells (clear k) r s = ⊥
+  Tells c r s = ⊥
 
   -- what a call does: it is refused by the first no and changes nothing, or every question says yes
   abbrev pub Does : Call → Reply m → State m → State m → Type 0

@@ -7,8 +7,12 @@ pub mod Tables
 pub mod Held
 pub mod Stops
 pub mod Book
+pub mod History
+pub mod Meaning
 pub mod Promise
+pub mod Lists
 pub mod Told
 pub mod Changing
 pub mod Filling
 pub mod Cores
+pub mod Inner

@@ -8,7 +8,7 @@ use Rattle.rows.specs.declared.outcome.Unkept.TheVariants as found
 use Rattle.rows.specs.Unrolled as unrolled
 use Rattle.runs.specs.declared.step.Step.{Step}
 use Rattle.shelves.specs.declared.refusal.Refusal.{Refusal}
-use Rattle.shelves.specs.declared.refusal.Refusal.TheVariants.{FewCells, NoShelf, SameShelf, ShelfTaken, ShelfEmpty, ManyCycles, BadArcs, StateWithoutArc, StepsFull, ArcsFull, LeavesAtOnce, NeverRepeats, TooLong}
+use Rattle.shelves.specs.declared.refusal.Refusal.TheVariants.{NeverRepeats, TooLong}
 use Rattle.shelves.specs.Effects.{Puts, Turns}
 use Rattle.shelves.specs.State.{State}
 
@@ -21,17 +21,7 @@ stop_of found.TooLong = TooLong
 abbrev pub Stopped : {m : Model} → Rule m → Refusal → Type 0
 Stopped rule NeverRepeats = unrolled.NeverSoon rule
 Stopped rule TooLong = unrolled.TooLong rule
-Stopped rule FewCells = ⊥
-Stopped rule NoShelf = ⊥
-Stopped rule SameShelf = ⊥
-Stopped rule ShelfTaken = ⊥
-Stopped rule ShelfEmpty = ⊥
-Stopped rule ManyCycles = ⊥
-Stopped rule BadArcs = ⊥
-Stopped rule StateWithoutArc = ⊥
-Stopped rule StepsFull = ⊥
-Stopped rule ArcsFull = ⊥
-Stopped rule LeavesAtOnce = ⊥
+Stopped rule other = ⊥
 
 -- what unrolling a rule onto shelf k does, by its answer
 abbrev pub Built : (m : Model) → Rule m → (k : ℕ) → Step → List Arc → State m → State m → Result ℕ Refusal → Type 0

@@ -2,7 +2,7 @@
 use Rattle.std.specs.Prelude.{Ok, Err, Result}
 use Rattle.std.specs.Option.{option_map}
 use Rattle.algebra.specs.Model.{Model}
-use Rattle.rows.specs.Pieces.{Rows, rows_of, meanings}
+use Rattle.rows.specs.Pieces.{Rows, given as rows_given}
 use Rattle.shelves.specs.declared.refusal.Refusal.{Refusal}
 use Rattle.shelves.specs.declared.report.Report.{Report as Made}
 use Rattle.shelves.specs.declared.reply.Answer.{Answer}
@@ -12,7 +12,7 @@ use Rattle.shelves.specs.Calls.{Report, Reply, accepted, reported, refused}
 
 -- the rows that a piece gives of the cells that keep it
 abbrev pub given : (m : Model) {V : Type 0} → (V → m.Carrier) → Shown V → Rows m
-given m means of = rows_of m (meanings means of.kept.cells.now) of.piece
+given m means of = rows_given m means of.kept of.piece
 
 -- the figure by its meaning, and the rest as it is
 abbrev pub report_of : (m : Model) {V : Type 0} → (V → m.Carrier) → Made V → Report m

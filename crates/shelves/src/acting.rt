@@ -2,7 +2,7 @@
 // at this moment and not of a type, so each asks for it by one word. Node and pause differ in the rows written, the shape
 // and the step, and share no more than the way they call, so each stands by itself.
 ghost use Rattle.shelves.specs.Calls.{node as node_call, pause as pause_call, table as table_call, pair as pair_call, loop as loop_call, clear as clear_call, report as report_call, reported};
-ghost use Rattle.shelves.specs.Cores.{CoreSaysYes, CoreDoes};
+ghost use Rattle.shelves.specs.Inner.{CoreSaysYes, CoreDoes};
 ghost use Rattle.shelves.specs.Told.{reply_of, report_of};
 
 use crate::building::{empty, put_node, put_pause};

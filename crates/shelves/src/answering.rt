@@ -1,6 +1,7 @@
 // Answering a call: the first no of its questions, or what it does.
 ghost use Rattle.shelves.specs.Calls.{report as report_call};
-ghost use Rattle.shelves.specs.Cores.{CoreSaysYes, CoreDoes, CoreAnswers};
+ghost use Rattle.shelves.specs.Cores.{CoreAnswers};
+ghost use Rattle.shelves.specs.Inner.{CoreSaysYes, CoreDoes};
 ghost use Rattle.shelves.specs.Held.{call_of};
 ghost use Rattle.shelves.specs.Told.{reply_of, shown};
 

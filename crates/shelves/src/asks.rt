@@ -3,7 +3,7 @@ ghost use Rattle.std.specs.Prelude.{◌≡◌, ◌+◌, ◌*◌, true, false, no
 ghost use Rattle.std.specs.List.{AllByRecursion};
 ghost use Rattle.rows.specs.Pieces.{meanings};
 ghost use Rattle.shelves.specs.Calls.{about};
-ghost use Rattle.shelves.specs.Cores.{CoreSaysYes, CoreSaysNo};
+ghost use Rattle.shelves.specs.Inner.{CoreSaysYes, CoreSaysNo};
 ghost use Rattle.shelves.specs.Held.{call_of};
 
 use crate::call::Call;

@@ -2,7 +2,7 @@
 ghost use Rattle.std.specs.Prelude.{◌≡◌, ◌<◌, [], ◌∷◌, ◌++◌, length, take, set, Some as present};
 ghost use Rattle.rows.specs.Pieces.{meanings};
 ghost use Rattle.runs.specs.declared.step.Step.TheVariants.{Node as node_step, Pause as pause_step};
-ghost use Rattle.shelves.specs.Cores.{CorePuts, CoreEmpties, CoreBuilt};
+ghost use Rattle.shelves.specs.Inner.{CorePuts, CoreEmpties, CoreBuilt};
 ghost use Rattle.shelves.specs.Effects.{node_row, pause_row};
 ghost use Rattle.shelves.specs.Tables.{shelves_of};
 

@@ -4,7 +4,7 @@ ghost use Rattle.std.specs.Prelude.{◌≡◌, ◌+◌, ◌<◌, ◌≤◌, [], 
 ghost use Rattle.rows.specs.Rules.Loop.{loop as loop_rule};
 ghost use Rattle.rows.specs.Rules.Table.{table as table_rule};
 ghost use Rattle.runs.specs.declared.step.Step.TheVariants.{Repeat as loop_step, Table as table_step};
-ghost use Rattle.shelves.specs.Cores.{CoreBuilt, core_rows};
+ghost use Rattle.shelves.specs.Inner.{CoreBuilt, core_rows};
 ghost use Rattle.shelves.specs.Effects.{pair_step};
 ghost use Rattle.shelves.specs.Questions.{pair_rule};
 ghost use Rattle.shelves.specs.State.{empty_shelf};

@@ -1,5 +1,5 @@
 // The promise over whole histories, in every algebra.
-ghost use Rattle.shelves.specs.Promise.{Promise, Opening};
+ghost use Rattle.shelves.specs.Lists.{Promise, Opening};
 
 use algebra::algebra::Algebra;
 

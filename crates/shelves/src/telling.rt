@@ -1,7 +1,8 @@
 // Telling of a shelf: the figure of its rows, and the first tick that reaches it.
-ghost use Rattle.std.specs.Prelude.{◌≡◌, ◌+◌, ◌<◌, true, Some as present};
+ghost use Rattle.std.specs.Prelude.{◌≡◌, true, Some as present};
 ghost use Rattle.std.specs.Option.{option_map};
 ghost use Rattle.algebra.specs.Coefficients.{join as joined};
+ghost use Rattle.rows.specs.Phases.{IsPhase};
 ghost use Rattle.rows.specs.Pieces.{pause_at, exit_at};
 ghost use Rattle.shelves.specs.Effects.{figure_of, FirstTick, Reports};
 ghost use Rattle.shelves.specs.Told.{given, report_of};
@@ -22,7 +23,7 @@ pub(crate) struct Shown<'a, V> {
 impl<'a, V: Algebra> Shown<'a, V> {
     // Both rows joined at phase k, which is the tick k too.
     fn both(&self, k: usize) -> Option<V>
-        requires { k < self.now.piece.shape.transient + self.now.piece.shape.period }
+        requires { IsPhase self.now.piece.shape k }
         ensures { let rows = given V.model V.means self.now in option_map V.means result ≡ joined V.model (pause_at rows k) (exit_at rows k) }
     {
         join(

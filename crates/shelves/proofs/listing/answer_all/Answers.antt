@@ -3,7 +3,8 @@ use Rattle.std.proofs.lemmas.List.{take-append-le, length-take-le, drop_at}
 use Rattle.shelves.specs.Calls.{Event}
 use Rattle.shelves.specs.Effects.{DoesAll}
 use Rattle.shelves.specs.Held.{state_of, call_of}
-use Rattle.shelves.specs.Promise.{Made, after_calls}
+use Rattle.shelves.specs.History.{Made}
+use Rattle.shelves.specs.Lists.{after_calls}
 use Rattle.shelves.specs.Told.{reply_of}
 use Rattle.shelves.proofs.AlgebraLaws.{laws_of}
 use Rattle.shelves.proofs.CallLists.{after_more, does_more}

@@ -2,7 +2,8 @@ use Rattle.std.proofs.Common.{List, map, take}
 use Rattle.shelves.specs.Calls.{Event}
 use Rattle.shelves.specs.Effects.{DoesAll}
 use Rattle.shelves.specs.Held.{state_of, call_of}
-use Rattle.shelves.specs.Promise.{Made, after_calls}
+use Rattle.shelves.specs.History.{Made}
+use Rattle.shelves.specs.Lists.{after_calls}
 use Rattle.shelves.specs.Told.{reply_of}
 use Rattle.shelves.proofs.listing.answer_all.Given as goal
 

@@ -1,4 +1,4 @@
-use Rattle.shelves.specs.Promise.{Fresh}
+use Rattle.shelves.specs.History.{Fresh}
 use Rattle.shelves.proofs.AlgebraLaws.{laws_of}
 use Rattle.shelves.proofs.Histories.{opening}
 use Rattle.shelves.proofs.Unchanged.{blank_mean, same_length}
