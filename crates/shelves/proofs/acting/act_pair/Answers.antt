@@ -1,7 +1,8 @@
-use Rattle.std.proofs.Common.{[], ◌∷◌}
+use Rattle.std.proofs.Common.{ℕ, [], ◌∷◌, subst}
 use Rattle.std.proofs.lemmas.Result.{err_from_is_err_and}
 use Rattle.shelves.specs.declared.refusal.Refusal.TheVariants.{NeverRepeats, TooLong}
 use Rattle.shelves.specs.Calls.{pair}
+use Rattle.shelves.specs.Effects.{Empties}
 use Rattle.shelves.specs.Held.{state_of}
 use Rattle.shelves.specs.Questions.{Yes, pair_rule}
 use Rattle.shelves.specs.Refusals.{early}
@@ -22,7 +23,11 @@ pub returns : goal.returns
 returns g c =
     let m = g.V.Algebra.model in
     let s = state_of m g.V.Algebra.means c.args.core.now in
-    let done = rw (c.filled_shelf-a.ensures.place, c.filled_shelf-b.ensures.place) at c.in_ok-number.ensures in (
+    let between = state_of m g.V.Algebra.means c.put_pair.new.core in
+    let last = state_of m g.V.Algebra.means c.empty.new.core in
+    let a = c.filled_shelf-a in
+    let b = c.filled_shelf-b in
+    let done = rw (a.ensures.place, b.ensures.place) at c.in_ok-number.ensures in (
       all_then (Yes m s (pair c.args.kind c.args.first c.args.second)) early (NeverRepeats ∷ TooLong ∷ []) c.requires (turn_yes (pair_rule m c.args.kind (shelf_rows s c.args.first) (shelf_rows s c.args.second)) _ _ _ _ _ _ done.0 done.1),
-      (done.0, (c.filled_shelf-a.result.step, c.filled_shelf-b.result.step, state_of m g.V.Algebra.means c.put_pair.new.core, c.filled_shelf-a.ensures.step, c.filled_shelf-b.ensures.step, done.1, rw c.filled_shelf-b.ensures.place at c.empty.ensures)),
+      (done.0, (a.result.step, b.result.step, between, a.ensures.step, b.ensures.step, done.1, subst (λ (k : ℕ). Empties m k between last) b.ensures.place c.empty.ensures)),
     )
