@@ -38,7 +38,7 @@ fn act<V: Algebra>(core: &mut Core<V>, call: Call) -> Reply<V>
 }
 
 // The answer to a call, and after any history the promise with this call added.
-pub(crate) fn answer<V: Algebra>(core: &mut Core<V>, call: Call) -> Reply<V>
+pub fn answer<V: Algebra>(core: &mut Core<V>, call: Call) -> Reply<V>
     ensures { CoreAnswers V.model V.means (call_of call.entry) (reply_of V.model V.means result) core.old core.new }
 {
     first_no(core, call)?;
