@@ -28,6 +28,7 @@ pub struct TicketRack<'a, V: Algebra> {
     core: Core<'a, V>,
 }
 
+// `CoreAnswers call reply before after` is the whole promise of a call: specs/Promise.antt of `shelves`, docs/PROMISE.md in words.
 // Each call has a name of its own, since `choice(a, b)` says more plainly what is meant than `pair(Choice, a, b)`; what they
 // share is said once below them.
 impl<'a, V: Algebra> TicketRack<'a, V> {
