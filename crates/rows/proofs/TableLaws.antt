@@ -80,7 +80,7 @@ module _ (m : Model) (laws : Laws m) where
       ap (gathered m test) (take-suc xs n d less)
       ∙ gathered-append test (take n xs) (get_or xs n d ∷ [])
       ∙ ap (together m (gathered m test (take n xs)))
-          (gathered_first test (get_or xs n d) [] ∙ and_nothing (adds (test (get_or xs n d)) (get_or xs n d)))
+      (gathered_first test (get_or xs n d) [] ∙ and_nothing (adds (test (get_or xs n d)) (get_or xs n d)))
 
   -- an arc more at a time
   pub fold_gathered : (test : Arc → Bool) (start : Gathered m) (arcs : List Arc) → fold (λ g arc. together m g (one m arc)) start (filter test arcs) ≡ together m start (gathered m test arcs)
@@ -147,13 +147,13 @@ module _ (m : Model) (laws : Laws m) {V : Type 0} (means : V → m.Carrier) (xs 
         same =
             ap (λ x. together m x (gathered m test (take (past p) xs))) is
             ∙ ap (together m (together m (held m means all) (one m arc)))
-                (ap (λ r. gathered m test (take (past r) xs)) next' ∙ skipped m laws xs q k (omega arith))
+            (ap (λ r. gathered m test (take (past r) xs)) next' ∙ skipped m laws xs q k (omega arith))
             ∙ assoc m laws (held m means all) (one m arc) (gathered m test (take k xs))
             ∙ ap (together m (held m means all))
-                (comm m laws (one m arc) (gathered m test (take k xs))
-                ∙ sym (gathered_more m laws test xs k d low
-                ∙ ap (together m (gathered m test (take k xs)))
-                    (ap (λ a. adds m laws (test a) a) (sym read) ∙ ap (λ b. adds m laws b arc) passes)))
+            (comm m laws (one m arc) (gathered m test (take k xs))
+            ∙ sym (gathered_more m laws test xs k d low
+            ∙ ap (together m (gathered m test (take k xs)))
+            (ap (λ a. adds m laws (test a) a) (sym read) ∙ ap (λ b. adds m laws b arc) passes)))
             ∙ before.same;
       }
 
@@ -219,10 +219,10 @@ module _ (m : Model) (laws : Laws m) (set : ℕ) where
       ∙ over_both (λ q. adds m laws (eqb arc.from q) arc) (λ q. gathered m (λ a. eqb a.from q) arcs) n
       ∙ ap (together m (over_states m set (λ q. adds m laws (eqb arc.from q) arc) n)) (state_by_state n small arcs)
       ∙ ap (λ x. together m x (gathered m (λ a. has set a.from) arcs))
-          (⊎_elim
-          (λ e. beyond (omega arith))
-          (⊎_elim (λ low. over_one arc n low) (λ far. beyond (omega arith)))
-          (cases_order arc.from n))
+      (⊎_elim
+      (λ e. beyond (omega arith))
+      (⊎_elim (λ low. over_one arc n low) (λ far. beyond (omega arith)))
+      (cases_order arc.from n))
       ∙ sym (gathered_first m laws (λ a. has set a.from) arc arcs)
     where
       beyond : n ≤ arc.from → over_states m set (λ q. adds m laws (eqb arc.from q) arc) n ≡ adds m laws (has set arc.from) arc

@@ -98,9 +98,10 @@ impl<'a> Table<'a> {
     {
         // no state is past the highest of the set
         let states = 64 - set.leading_zeros() as u8;
-        (0..states)
-            .filter(|&state| has(set, state as usize))
-            .fold(Gathered::nothing(), |sofar, state| self.from_state(sofar, state))
+        (0..states).filter(|&state| has(set, state as usize)).fold(
+            Gathered::nothing(),
+            |sofar, state| self.from_state(sofar, state),
+        )
     }
 
     // All arcs of the set's states.
