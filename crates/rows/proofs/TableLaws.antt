@@ -1,10 +1,10 @@
 -- Arcs gathered: in parts, along the chain of a state, and over the states of a set.
-use Rattle.std.proofs.Common.{◌≡◌, ℕ, zero, suc, ◌+◌, ◌-◌, ◌^◌, ◌<◌, ◌≤◌, min, Bool, true, false, cond, not, ◌&&◌, eqb, ltb, List, [], ◌∷◌, ◌++◌, length, map, get_or, take, drop, filter, fold, Option, Some, None, sym, refl, ap, ◌∙◌, subst, ⊎_elim, le_refl, arith}
+use Rattle.std.proofs.Common.{◌≡◌, ℕ, zero, suc, ◌-◌, ◌^◌, ◌<◌, ◌≤◌, min, Bool, true, false, cond, not, ◌&&◌, eqb, List, [], ◌∷◌, ◌++◌, length, map, get_or, take, drop, filter, fold, Option, Some, None, sym, refl, ap, ◌∙◌, subst, ⊎_elim, le_refl, arith}
 use Rattle.std.proofs.Math.Seq.{take-suc, take-length}
 use lib.Bits.{bit_or, or_comm, or_zero_r}
 use Rattle.std.proofs.Math.Nat.{min_comm}
 use Rattle.std.proofs.lemmas.List.{get_or-map, take_all, take_min, length-drop}
-use Rattle.std.proofs.lemmas.Bool.{both_ways, cases_eq, cases_order, cond-true, cond-false, cond_both, eq-eqb, ne_eqb}
+use Rattle.std.proofs.lemmas.Bool.{cases_eq, cases_order, cond_both, eq-eqb, ne_eqb}
 use Rattle.algebra.specs.declared.arc.Arc.{Arc}
 use Rattle.algebra.specs.Model.{Model, Laws}
 use Rattle.algebra.specs.Coefficients.{Coef, join}
@@ -14,7 +14,7 @@ use Rattle.rows.specs.Chains.{newest}
 use Rattle.rows.specs.declared.table.Gathered.{Gathered as Held}
 use Rattle.rows.specs.Gathered.{Gathered, nothing, one, together, gathered, held}
 use Rattle.rows.specs.Sets.{has, with_member}
-use Rattle.rows.specs.Rules.Table.{stays, current, weights, reached}
+use Rattle.rows.specs.Rules.Table.{stays, weights, reached}
 use Rattle.rows.proofs.Chaining.{past, Leads, leads}
 use Rattle.rows.proofs.SetLaws.{has_past}
 

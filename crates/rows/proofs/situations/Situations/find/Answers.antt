@@ -1,4 +1,4 @@
-use Rattle.std.proofs.Common.{◌≡◌, ℕ, ◌≤◌, get_or, length, Some, ap, sym, ◌∙◌, subst, false, rules}
+use Rattle.std.proofs.Common.{◌≡◌, ℕ, ◌≤◌, get_or, length, ap, sym, ◌∙◌, subst, false, rules}
 use Rattle.rows.specs.Chains.{keys, newest}
 use Rattle.rows.specs.Situations.{chain, nth}
 use Rattle.rows.specs.Rules.Rule.{situation}

@@ -1,4 +1,4 @@
-use Rattle.std.proofs.Common.{◌≡◌, take}
+use Rattle.std.proofs.Common.{take}
 use Rattle.rows.proofs.Chaining.{past}
 use Rattle.rows.proofs.TableLaws.{Along}
 use Rattle.rows.proofs.table.Table.from_state.Given as goal
