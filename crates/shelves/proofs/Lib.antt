@@ -12,7 +12,6 @@ pub mod EachCall
 pub mod Reported
 pub mod OneMeaning
 pub mod Histories
-pub mod AlgebraLaws
 pub mod Reaching
 pub mod Asking
 pub mod CallLists

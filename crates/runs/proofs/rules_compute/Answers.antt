@@ -1,5 +1,3 @@
-use Rattle.std.proofs.Common.{rules}
-use Rattle.algebra.specs.Model.{Laws}
 use Rattle.runs.proofs.EachKind.{node_rows, pause_rows}
 use Rattle.runs.proofs.Rules.Table.{table_computes}
 use Rattle.runs.proofs.Rules.Choice.{choice_computes}
@@ -7,11 +5,12 @@ use Rattle.runs.proofs.Rules.Sequence.{sequence_computes}
 use Rattle.runs.proofs.Rules.Loop.{loop_computes}
 use Rattle.runs.proofs.Rules.Fork.{fork_computes}
 use Rattle.runs.proofs.Rules.Abort.{abort_computes}
+use Rattle.algebra.proofs.AlgebraLaws.{laws_of}
 use Rattle.runs.proofs.rules_compute.Goals as goal
 
 pub returns : goal.returns
 returns g c =
-    let laws : Laws g.V.Algebra.model = search rules in
+    let laws = laws_of g.world g.met.V.Algebra in
     record {
       node = node_rows _ laws _;
       pause = pause_rows _ laws _;

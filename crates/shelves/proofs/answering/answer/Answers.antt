@@ -4,7 +4,7 @@ use Rattle.shelves.specs.declared.refusal.Refusal.TheVariants.{NeverRepeats, Too
 use Rattle.shelves.specs.Held.{state_of, call_of}
 use Rattle.shelves.specs.Questions.{Yes, FirstNo}
 use Rattle.shelves.specs.Refusals.{early, order}
-use Rattle.shelves.proofs.AlgebraLaws.{laws_of}
+use Rattle.algebra.proofs.AlgebraLaws.{laws_of}
 use Rattle.shelves.proofs.Asking.{no_before}
 use Rattle.shelves.proofs.Histories.{answers}
 use Rattle.shelves.proofs.answering.answer.Goals as goal

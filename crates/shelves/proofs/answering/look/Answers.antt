@@ -5,7 +5,7 @@ use Rattle.shelves.specs.Calls.{report}
 use Rattle.shelves.specs.Held.{state_of}
 use Rattle.shelves.specs.Questions.{Yes, FirstNo}
 use Rattle.shelves.specs.Refusals.{early, order}
-use Rattle.shelves.proofs.AlgebraLaws.{laws_of}
+use Rattle.algebra.proofs.AlgebraLaws.{laws_of}
 use Rattle.shelves.proofs.Asking.{no_before}
 use Rattle.shelves.proofs.Histories.{answers}
 use Rattle.shelves.proofs.answering.look.Goals as goal

@@ -6,7 +6,7 @@ use Rattle.shelves.specs.Held.{state_of, call_of}
 use Rattle.shelves.specs.History.{Made}
 use Rattle.shelves.specs.Lists.{after_calls}
 use Rattle.shelves.specs.Told.{reply_of}
-use Rattle.shelves.proofs.AlgebraLaws.{laws_of}
+use Rattle.algebra.proofs.AlgebraLaws.{laws_of}
 use Rattle.shelves.proofs.CallLists.{after_more, does_more}
 use Rattle.shelves.proofs.Histories.{kept}
 use Rattle.shelves.proofs.listing.answer_all.Goals as goal

@@ -1,5 +1,5 @@
 use Rattle.shelves.specs.History.{Fresh}
-use Rattle.shelves.proofs.AlgebraLaws.{laws_of}
+use Rattle.algebra.proofs.AlgebraLaws.{laws_of}
 use Rattle.shelves.proofs.Histories.{opening}
 use Rattle.shelves.proofs.Unchanged.{blank_mean, same_length}
 use Rattle.shelves.proofs.opening.open.Goals as goal

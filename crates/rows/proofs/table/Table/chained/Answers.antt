@@ -5,16 +5,12 @@ use Rattle.std.specs.List.{range_with_len}
 use borrow.Author.Tests.{tests}
 use Rattle.std.proofs.lemmas.Iterator.{YieldsList-from_range}
 use Rattle.std.proofs.lemmas.Iterator.Consumers.{YieldsList-from_filter}
-use Rattle.algebra.specs.Model.{Laws}
 use Rattle.rows.specs.Gathered.{Gathered, together, gathered, held}
 use Rattle.rows.specs.Sets.{has}
 use Rattle.rows.proofs.Folds.{fold_read, fold_passing}
 use Rattle.rows.proofs.TableLaws.{over_states, state_by_state}
-use Rattle.rows.proofs.table.Table.chained.Given.{Over}
+use Rattle.algebra.proofs.AlgebraLaws.{laws_of}
 use Rattle.rows.proofs.table.Table.chained.Goals as goal
-
-laws : (g : Over) → Laws g.V.Algebra.model
-laws g = search rules
 
 pub returns : goal.returns
 returns g c =
@@ -32,4 +28,4 @@ returns g c =
     (λ s x b q k. search rules)
     ∙ ap (λ start. fold step start (filter (has set) (range_with_len 0 n))) c.nothing.ensures
     ∙ fold_passing (has set) step (over_states m set of) (λ k. refl) n
-    ∙ state_by_state m (laws g) set n below xs
+    ∙ state_by_state m (laws_of g.world g.met.V.Algebra) set n below xs

@@ -4,16 +4,12 @@ use Rattle.std.proofs.lemmas.List.{take-append-drop}
 use Rattle.std.proofs.lemmas.Iterator.{YieldsList-from_slice}
 use Rattle.std.proofs.lemmas.Iterator.Consumers.{YieldsList-from_filter}
 use Rattle.algebra.specs.declared.arc.Arc.{Arc}
-use Rattle.algebra.specs.Model.{Laws}
 use Rattle.rows.specs.Gathered.{one, together, gathered, held}
 use Rattle.rows.specs.Sets.{has}
 use Rattle.rows.proofs.Folds.{fold_read}
 use Rattle.rows.proofs.TableLaws.{fold_gathered, gathered-append, first_arcs, rest_arcs}
-use Rattle.rows.proofs.table.Table.follow.Given.{Over}
+use Rattle.algebra.proofs.AlgebraLaws.{laws_of}
 use Rattle.rows.proofs.table.Table.follow.Goals as goal
-
-laws : (g : Over) → Laws g.V.Algebra.model
-laws g = search rules
 
 pub returns : goal.returns
 returns g c =
@@ -26,7 +22,7 @@ returns g c =
     fold_read _ (held m g.V.Algebra.means) (λ all arc. together m all (one m arc)) _ _ c.fold.ensures.ran
     (YieldsList-from_filter _ test (YieldsList-from_slice (drop n arcs) (cc)) c.filter.ensures.closure (λ x b q k. search (rules, tests)))
     (λ s x b q k. search rules)
-    ∙ fold_gathered m (laws g) test (held m g.V.Algebra.means c.chained.result) (drop n arcs)
+    ∙ fold_gathered m (laws_of g.world g.met.V.Algebra) test (held m g.V.Algebra.means c.chained.result) (drop n arcs)
     ∙ ap (λ x. together m x (gathered m test (drop n arcs))) (c.chained.ensures ∙ ap (gathered m test) (sym (first_arcs 1024 arcs c.min.ensures)))
-    ∙ sym (gathered-append m (laws g) test (take n arcs) (drop n arcs))
+    ∙ sym (gathered-append m (laws_of g.world g.met.V.Algebra) test (take n arcs) (drop n arcs))
     ∙ ap (gathered m test) (take-append-drop n arcs)

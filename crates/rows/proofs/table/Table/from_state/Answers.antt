@@ -1,15 +1,11 @@
-use Rattle.std.proofs.Common.{ℕ, ◌<◌, ◌≤◌, length, get_or, take, sym, ap, ◌∙◌, subst, arith, rules}
+use Rattle.std.proofs.Common.{ℕ, ◌<◌, ◌≤◌, length, get_or, take, sym, ap, ◌∙◌, subst, arith}
 use Rattle.std.proofs.lemmas.List.{get_or-take, length-take}
 use Rattle.algebra.specs.declared.arc.Arc.{Arc}
-use Rattle.algebra.specs.Model.{Laws}
 use Rattle.rows.specs.Chains.{keys, newest}
 use Rattle.rows.proofs.Chaining.{past, leads, shorter, count_keyed}
 use Rattle.rows.proofs.TableLaws.{Along, along_low, along_first, along_next, along_end}
-use Rattle.rows.proofs.table.Table.from_state.Given.{Over}
+use Rattle.algebra.proofs.AlgebraLaws.{laws_of}
 use Rattle.rows.proofs.table.Table.from_state.Goals as goal
-
-laws : (g : Over) → Laws g.V.Algebra.model
-laws g = search rules
 
 pub loop-next-init : goal.loop-next-init
 loop-next-init g c =
@@ -17,7 +13,7 @@ loop-next-init g c =
     let self = c.args.self.now in
     let links = self.chains.links.items in
     let xs = take 1024 self.arcs.now in
-    along_first m (laws g) g.V.Algebra.means xs c.args.state c.args.sofar _
+    along_first m (laws_of g.world g.met.V.Algebra) g.V.Algebra.means xs c.args.state c.args.sofar _
     (c.head-next.ensures
     ∙ ap (λ (n : ℕ). newest (keys links) n c.args.state) (count_keyed (λ a. a.from) links xs self.keyed)
     ∙ ap (λ ks. newest ks (length xs) c.args.state) self.keyed)
@@ -32,7 +28,7 @@ loop-next-preserved g c =
     let nowhere : Arc = record { from = 0; to = 0; label = record { cycles = 0; ports = 0 } } in
     let here = subst (λ p. Along m f xs c.args.state c.args.sofar p c.loop-next.all) c.in-Some.is c.loop-next.invariant in
     let low : k < 1024 = omega (arith, along_low c.loop-next.invariant k c.in-Some.is, length-take 1024 self.arcs.now) in
-    along_next m (laws g) f xs c.args.state c.args.sofar k _ c.loop-next.all c.with-all.result (get_or self.arcs.now k nowhere) nowhere here
+    along_next m (laws_of g.world g.met.V.Algebra) f xs c.args.state c.args.sofar k _ c.loop-next.all c.with-all.result (get_or self.arcs.now k nowhere) nowhere here
     (sym (get_or-take 1024 self.arcs.now k nowhere low))
     c.with-all.ensures
     (c.before-next.ensures ∙ ap (λ ks. newest ks k (get_or ks k 0)) self.keyed)
@@ -40,7 +36,7 @@ loop-next-preserved g c =
 pub returns : goal.returns
 returns g c =
     let m = g.V.Algebra.model in
-    along_end m (laws g) g.V.Algebra.means (take 1024 c.args.self.now.arcs.now) c.args.state c.args.sofar c.loop-next.next c.loop-next.all c.in_default.is c.loop-next.invariant
+    along_end m (laws_of g.world g.met.V.Algebra) g.V.Algebra.means (take 1024 c.args.self.now.arcs.now) c.args.state c.args.sofar c.loop-next.next c.loop-next.all c.in_default.is c.loop-next.invariant
 
 pub bounds-self-k : goal.bounds-self-k
 bounds-self-k g c =
