@@ -12,7 +12,7 @@ use std::test::*;
 use tickets::ticket::{Built, Ticket};
 use tickets::ticket_rack::TicketRack;
 
-// The ticket of an accepted call, after its number and its shelf. Tickets cannot be let fall, so a call that is refused
+// The ticket of an accepted call, with number and shelf as awaited. Tickets cannot be let fall, so a call that is refused
 // where it should not be ends the test here.
 pub fn ticket<E>(rt: &impl Abort, answer: Result<Built, E>, awaited: (usize, u8)) -> Ticket {
     match answer {

@@ -22,7 +22,7 @@ fn back<T>(rt: &impl Abort, answer: Result<T, Back>, no: Refusal) -> Ticket {
     }
 }
 
-// Both tickets of a refused call, after the shelves that they name in their order.
+// Both tickets of a refused call, in their order.
 fn both_back(
     rt: &impl Abort,
     answer: Result<Built, BothBack>,

@@ -55,7 +55,8 @@ fn told(cycles: u32, transient: usize) -> Reply<Worst> {
 // What a lent reply holds before: no call on an open rack is refused so.
 const LENT: Reply<Worst> = Err(FewCells);
 
-// Runs the list on a rack of each kind, over as many replies as are awaited, and then a list of one report.
+// Runs the list on a rack of each kind, over as many replies as are awaited, and then a list of one report. The two kinds
+// share no trait, so each is run in full.
 fn on_each(rt: &impl Abort, count: usize, awaited: &[Reply<Worst>], after: Reply<Worst>) {
     let arcs = [arc(0, 0, 6), arc(0, OUT, 20)];
     let calls = calls(&arcs);
