@@ -35,14 +35,14 @@ pub enum States {
 }
 
 // A label of so many cycles, on the port of that number modulo 32.
-fn cost(cycles: u32) -> Label {
+pub fn cost(cycles: u32) -> Label {
     Label {
         cycles,
         ports: 1 << (cycles % 32),
     }
 }
 
-fn arc(from: u8, to: u8, cycles: u32) -> Arc {
+pub fn arc(from: u8, to: u8, cycles: u32) -> Arc {
     Arc {
         from,
         to,
@@ -52,7 +52,7 @@ fn arc(from: u8, to: u8, cycles: u32) -> Arc {
 
 // As many arcs as the longest ring has, of which a table takes its first. An `ArrayVec` would have the count inside, but
 // a loop would have to push each arc, and prove that there is room.
-fn ring(states: u8) -> [Arc; 65] {
+pub fn ring(states: u8) -> [Arc; 65] {
     array::from_fn(|place| {
         let k = place as u8;
         let next = if k + 1 == states { 0 } else { k + 1 };

@@ -1,21 +1,11 @@
-// Every refusal.
+// The numbers of the refusals, and those of the calls.
 use crate::deed::Deed::*;
 use crate::deed::States::*;
 use crate::script::Line::*;
 use crate::script::{Line, under_each};
-use algebra::worst::Worst;
-use shelves::opening::enough;
 use shelves::refusal::Refusal::*;
 use std::array;
 use std::test::*;
-
-#[test]
-fn few_cells(rt: HostRuntime) -> Result<(), Fail> {
-    let cells: [Option<Worst>; 4096] = [None; 4096];
-    assert!(rt; enough(&cells));
-    assert!(rt; !enough(&cells[0..4095]));
-    Ok(())
-}
 
 // The numbers that are printed, in the order of the questions.
 #[test]

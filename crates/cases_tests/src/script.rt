@@ -8,6 +8,7 @@ use algebra::worst::Worst;
 use rack::rack::Rack;
 use shelves::opening::enough;
 use shelves::refusal::Refusal;
+use shelves::report::Report;
 use std::process::Abort;
 use std::test::*;
 
@@ -28,14 +29,14 @@ const PAUSE: Line = Line::Done(Deed::Pause(15, 10), 0);
 
 const ITS_REPORT: Line = Line::Report(15, (10, 0), (0, 1), 0x400, (2, 1));
 
-fn reports<V: Told>(
+// Is an answer a report with these figures and this transient and period?
+pub fn reports<V: Told>(
     rt: &impl Abort,
-    rack: &Rack<V>,
-    shelf: u8,
+    answer: Result<Report<V>, Refusal>,
     awaited: Figures,
     shape: (usize, usize),
 ) -> Result<(), Fail> {
-    let report = rack.report(shelf)?;
+    let report = answer?;
     assert_eq!(rt; (report.transient, report.period), shape);
     let Some(figure) = report.figure else {
         return Err(Fail::new("no figure"));
@@ -68,7 +69,8 @@ fn play<V: Told>(
         },
         Line::Refused(deed, why) => refused(rt, perform(rack, deed), why, place),
         Line::Report(shelf, worst, best, ports, shape) => {
-            reports(rt, rack, shelf, Figures { worst, best, ports }, shape)
+            let awaited = Figures { worst, best, ports };
+            reports(rt, rack.report(shelf), awaited, shape)
         }
         Line::NoReport(shelf, why) => refused(rt, rack.report(shelf), why, place),
     }
