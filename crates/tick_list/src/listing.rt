@@ -43,7 +43,14 @@ fn put_records(text: &mut String, records: &[Record]) -> Result<(), AllocError>
     Ok(())
 }
 
-fn put_figures(text: &mut String, records: usize, labels: usize, worst: Worst, best: Best, ports: Ports) -> Result<(), AllocError>
+fn put_figures(
+    text: &mut String,
+    records: usize,
+    labels: usize,
+    worst: Worst,
+    best: Best,
+    ports: Ports,
+) -> Result<(), AllocError>
     ensures { OnOk result (string_bytes text.new ≡ string_bytes text.old ++ figures_words records labels worst.cycles best.cycles ports.bits) }
 {
     writeln!(text, "records {records}")?;
