@@ -1,5 +1,5 @@
 // What stands after a record's length and kind, read from the whole of its bytes.
-ghost use Rattle.std.specs.Prelude.{◌≡◌, ◌<◌, ◌∷◌, ◌++◌, length, map, All, IfOk, MatchResult, ◌≢◌};
+ghost use Rattle.std.specs.Prelude.{◌≡◌, ◌≢◌, ◌<◌, [], ◌∷◌, ◌++◌, length, map, All, IfOk, MatchResult};
 ghost use Rattle.std.specs.List.{flat_map};
 ghost use Rattle.program.specs.declared.kind.Kind.TheVariants.{Table as TableKind};
 ghost use Rattle.program.specs.declared.refusal.Refusal.TheVariants.{Misfit};
@@ -12,11 +12,27 @@ use algebra::arc::Arc;
 use algebra::label::Label;
 use std::alloc::{AllocError, Global};
 
-// A body of so many bytes, as shelves are.
-pub fn bytes<const N: usize>(body: &[u8]) -> Result<&[u8; N], Refusal>
+// So many bytes and no more.
+fn bytes<const N: usize>(body: &[u8]) -> Result<&[u8; N], Refusal>
     ensures { MatchResult result (λ b. body.now ≡ b.now) (λ e. (e ≡ Misfit) × (length body.now ≢ N)) }
 {
     body.as_array().ok_or(Refusal::Misfit)
+}
+
+// A shelf alone.
+pub fn shelf(body: &[u8]) -> Result<u8, Refusal>
+    ensures { MatchResult result (λ s. (s < 256) × (body.now ≡ s ∷ [])) (λ e. (e ≡ Misfit) × (length body.now ≢ 1)) }
+{
+    let [shelf] = *bytes::<1>(body)?;
+    Ok(shelf)
+}
+
+// Two shelves.
+pub fn shelves(body: &[u8]) -> Result<(u8, u8), Refusal>
+    ensures { MatchResult result (λ s. (s.0 < 256) × (s.1 < 256) × (body.now ≡ s.0 ∷ s.1 ∷ [])) (λ e. (e ≡ Misfit) × (length body.now ≢ 2)) }
+{
+    let [first, second] = *bytes::<2>(body)?;
+    Ok((first, second))
 }
 
 fn label(bytes: &[u8; 8]) -> Label

@@ -4,7 +4,7 @@ ghost use Rattle.program.specs.Bodies.{Misfits};
 ghost use Rattle.program.specs.Entries.{entry};
 ghost use Rattle.program.specs.Format.{kind as kind_of, body as body_of, FitsBody, Spells, Stops};
 
-use crate::bodies::{bytes, step, table};
+use crate::bodies::{shelf, shelves, step, table};
 use crate::fault::Fault;
 use crate::kind::Kind;
 use crate::record::Record;
@@ -29,27 +29,27 @@ fn record(heap: Global, kind: Kind, body: &[u8]) -> Result<Record, Fault>
             Ok(Record::Table { shelf, arcs })
         }
         Kind::Choice => {
-            let [first, second] = *bytes::<2>(body)?;
+            let (first, second) = shelves(body)?;
             Ok(Record::Choice { first, second })
         }
         Kind::Sequence => {
-            let [first, second] = *bytes::<2>(body)?;
+            let (first, second) = shelves(body)?;
             Ok(Record::Sequence { first, second })
         }
         Kind::Loop => {
-            let [shelf] = *bytes::<1>(body)?;
+            let shelf = shelf(body)?;
             Ok(Record::Loop { shelf })
         }
         Kind::Fork => {
-            let [first, second] = *bytes::<2>(body)?;
+            let (first, second) = shelves(body)?;
             Ok(Record::Fork { first, second })
         }
         Kind::Abort => {
-            let [first, second] = *bytes::<2>(body)?;
+            let (first, second) = shelves(body)?;
             Ok(Record::Abort { first, second })
         }
         Kind::Clear => {
-            let [shelf] = *bytes::<1>(body)?;
+            let shelf = shelf(body)?;
             Ok(Record::Clear { shelf })
         }
     }

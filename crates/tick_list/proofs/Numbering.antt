@@ -1,5 +1,5 @@
 -- Numbered items: one more comes last, with the number of those before it.
-use Rattle.std.proofs.Common.{◌≡◌, ℕ, ◌+◌, ◌<◌, List, [], ◌∷◌, ◌++◌, length, get_or, take, sym, ap, ◌∙◌, refl, append_assoc, append-nil, arith, length-take}
+use Rattle.std.proofs.Common.{◌≡◌, ℕ, ◌+◌, ◌<◌, List, [], ◌∷◌, ◌++◌, length, get_or, take, sym, ap, ◌∙◌, append_assoc, append-nil, arith, length-take}
 use Rattle.std.proofs.lemmas.List.{take_more}
 use Rattle.tick_list.specs.Listings.{numbered}
 
@@ -14,6 +14,6 @@ module _ {A : Type 0} (line : ℕ → A → List ℕ) where
   pub written_more : (old text more : List ℕ) (xs : List A) (i : ℕ) (d : A) → i < length xs → text ≡ old ++ numbered line 0 (take i xs) → more ≡ text ++ line i (get_or xs i d) → more ≡ old ++ numbered line 0 (take (i + 1) xs)
   written_more old text more xs i d h so on =
       let last : numbered line 0 (take (i + 1) xs) ≡ numbered line 0 (take i xs) ++ line i (get_or xs i d) =
-          ap (numbered line 0) (take_more xs i d h) ∙ numbered_more 0 i (take i xs) (get_or xs i d) (omega (arith, length-take i xs)) in
+      ap (numbered line 0) (take_more xs i d h) ∙ numbered_more 0 i (take i xs) (get_or xs i d) (omega (arith, length-take i xs)) in
       on ∙ ap (λ (l : List ℕ). l ++ line i (get_or xs i d)) so ∙ append_assoc old (numbered line 0 (take i xs)) (line i (get_or xs i d))
       ∙ ap (λ (l : List ℕ). old ++ l) (sym last)

@@ -1,7 +1,7 @@
 // What a program file holds, in lines.
-ghost use Rattle.std.specs.Prelude.{◌≡◌, ◌++◌, map, IfOk, OnOk, string_bytes};
+ghost use Rattle.std.specs.Prelude.{map, IfOk, OnOk, string_bytes};
 ghost use Rattle.program.specs.Entries.{entry};
-ghost use Rattle.tick_list.specs.Listings.{numbered, arc_line, record_lines, figures_words, totals_words, refused_words, ListingOf};
+ghost use Rattle.tick_list.specs.Listings.{Gains, numbered, arc_line, record_lines, figures_words, totals_words, refused_words, ListingOf};
 
 use crate::lines::Words;
 use algebra::arc::Arc;
@@ -15,7 +15,7 @@ use program::weights::{count, weight};
 use std::alloc::{AllocError, Global};
 
 fn put_arcs(text: &mut String, arcs: &[Arc]) -> Result<(), AllocError>
-    ensures { OnOk result (string_bytes text.new ≡ string_bytes text.old ++ numbered arc_line 0 arcs.now) }
+    ensures { OnOk result (Gains text.old text.new (numbered arc_line 0 arcs.now)) }
 {
     for (i, arc) in arcs.iter().enumerate() {
         writeln!(text, "  arc {i} {}", Words(*arc))?;
@@ -25,7 +25,7 @@ fn put_arcs(text: &mut String, arcs: &[Arc]) -> Result<(), AllocError>
 
 // The line of a record, and below it those of its arcs.
 fn put_record(text: &mut String, index: usize, of: &Record) -> Result<(), AllocError>
-    ensures { OnOk result (string_bytes text.new ≡ string_bytes text.old ++ record_lines index (entry of.now)) }
+    ensures { OnOk result (Gains text.old text.new (record_lines index (entry of.now))) }
 {
     writeln!(text, "record {index} {}", Words(of))?;
     if let Record::Table { arcs, .. } = of {
@@ -35,7 +35,7 @@ fn put_record(text: &mut String, index: usize, of: &Record) -> Result<(), AllocE
 }
 
 fn put_records(text: &mut String, records: &[Record]) -> Result<(), AllocError>
-    ensures { OnOk result (string_bytes text.new ≡ string_bytes text.old ++ numbered record_lines 0 (map entry records.now)) }
+    ensures { OnOk result (Gains text.old text.new (numbered record_lines 0 (map entry records.now))) }
 {
     for (i, item) in records.iter().enumerate() {
         put_record(text, i, item)?;
@@ -43,8 +43,15 @@ fn put_records(text: &mut String, records: &[Record]) -> Result<(), AllocError>
     Ok(())
 }
 
-fn put_figures(text: &mut String, records: usize, labels: usize, worst: Worst, best: Best, ports: Ports) -> Result<(), AllocError>
-    ensures { OnOk result (string_bytes text.new ≡ string_bytes text.old ++ figures_words records labels worst.cycles best.cycles ports.bits) }
+fn put_figures(
+    text: &mut String,
+    records: usize,
+    labels: usize,
+    worst: Worst,
+    best: Best,
+    ports: Ports,
+) -> Result<(), AllocError>
+    ensures { OnOk result (Gains text.old text.new (figures_words records labels worst.cycles best.cycles ports.bits)) }
 {
     writeln!(text, "records {records}")?;
     writeln!(text, "labels {labels}")?;
@@ -54,7 +61,7 @@ fn put_figures(text: &mut String, records: usize, labels: usize, worst: Worst, b
 }
 
 fn put_totals(text: &mut String, records: &[Record]) -> Result<(), AllocError>
-    ensures { OnOk result (string_bytes text.new ≡ string_bytes text.old ++ totals_words (map entry records.now)) }
+    ensures { OnOk result (Gains text.old text.new (totals_words (map entry records.now))) }
 {
     let worst = weight::<Worst>(records);
     let best = weight::<Best>(records);
@@ -64,7 +71,7 @@ fn put_totals(text: &mut String, records: &[Record]) -> Result<(), AllocError>
 
 // Records are numbered from 0, so the one that is refused has the count of those before it.
 fn put_refusal(text: &mut String, why: Refusal, before: usize) -> Result<(), AllocError>
-    ensures { OnOk result (string_bytes text.new ≡ string_bytes text.old ++ refused_words why before) }
+    ensures { OnOk result (Gains text.old text.new (refused_words why before)) }
 {
     writeln!(text, "refused {} record {before}", why.number())
 }

@@ -3,6 +3,8 @@
 
 mod lines;
 mod listing;
+#[cfg(test)]
+mod tests;
 
 use listing::listing;
 use std::io;

@@ -10,6 +10,6 @@ loop-i-preserved c =
     let rs = c.args.records.now in
     let here = c.index-records-i.result in
     let at : entry here ≡ get_or (map entry rs) c.loop-i.i (entry here) =
-        ap entry c.index-records-i.is ∙ sym (get_or-map entry rs c.loop-i.i here (entry here) c.loop-i-test.true) in
+    ap entry c.index-records-i.is ∙ sym (get_or-map entry rs c.loop-i.i here (entry here) c.loop-i-test.true) in
     written_more record_lines _ _ _ (map entry rs) c.loop-i.i (entry here) (omega (arith, length-map rs entry)) c.loop-i.invariant
     (c.in_ok-put_record.ensures ∙ ap (λ (e : Entry). string_bytes c.loop-i.text ++ record_lines c.loop-i.i e) at)
