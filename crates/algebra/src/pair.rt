@@ -1,4 +1,5 @@
-// Any two algebras side by side, half by half: the join by the joins, the sum by the sums.
+// Any two algebras side by side, half by half. Join and add stand apart: a function of both would take two closures, and
+// be as long.
 ghost use Rattle.algebra.specs.Models.{pair as pair_of};
 ghost use Rattle.std.proofs.Common.{rules};
 

@@ -1,4 +1,4 @@
-// The ports used: both the join and the sum are the union, each under its own equation.
+// The ports used: both the join and the sum are the union.
 ghost use Rattle.std.specs.Prelude.{Some, decimal};
 ghost use Rattle.algebra.specs.Models.{ports as model_of_ports};
 ghost use Rattle.algebra.specs.Bits.{or_assoc, or_or};
@@ -55,9 +55,7 @@ impl Algebra for Ports {
     }
 
     fn add(self, other: Ports) -> Ports {
-        Ports {
-            bits: self.bits | other.bits,
-        }
+        self.join(other)
     }
 
     fn chooses() -> bool {

@@ -2,6 +2,7 @@
 use algebra::algebra::Algebra;
 use algebra::arc::{Arc, OUT};
 use algebra::label::Label;
+use arrayvec::ArrayVec;
 use rack::rack::Rack;
 use shelves::refusal::Refusal;
 use std::array;
@@ -50,33 +51,33 @@ pub fn arc(from: u8, to: u8, cycles: u32) -> Arc {
     }
 }
 
-// As many arcs as the longest ring has, of which a table takes its first. An `ArrayVec` would have the count inside, but
-// a loop would have to push each arc, and prove that there is room.
-pub fn ring(states: u8) -> [Arc; 65] {
-    array::from_fn(|place| {
+// The arcs of a ring of so many states, at most 65.
+pub fn ring(states: u8) -> ArrayVec<Arc, 65> {
+    let mut arcs = ArrayVec::from(array::from_fn(|place| {
         let k = place as u8;
         let next = if k + 1 == states { 0 } else { k + 1 };
         arc(k, next, if k == 0 { 1 } else { 0 })
-    })
+    }));
+    arcs.truncate(states as usize);
+    arcs
 }
 
 fn table<V: Algebra>(rack: &mut Rack<V>, shelf: u8, states: States) -> Result<usize, Refusal> {
+    // a match, since each case has arguments of its own
     match states {
         States::Watch => rack.table(shelf, &[arc(0, 0, 6), arc(0, OUT, 20)]),
         States::Detour => {
             let arcs = [arc(0, 1, 5), arc(0, 2, 8), arc(1, 0, 3), arc(2, 0, 1)];
             rack.table(shelf, &arcs)
         }
-        States::Ring(count) => {
-            let arcs = ring(count);
-            rack.table(shelf, &arcs[..arcs.len().min(count as usize)])
-        }
+        States::Ring(count) => rack.table(shelf, &ring(count)),
         States::Stuck => rack.table(shelf, &[arc(0, 1, 1)]),
         States::Loops => rack.table(shelf, &[arc(0, 0, 1); 512]),
     }
 }
 
 pub fn perform<V: Algebra>(rack: &mut Rack<V>, deed: Deed) -> Result<usize, Refusal> {
+    // a match, since each case has arguments of its own
     match deed {
         Deed::Node(shelf, cycles) => rack.node(shelf, cost(cycles)),
         Deed::Pause(shelf, cycles) => rack.pause(shelf, cost(cycles)),

@@ -79,8 +79,8 @@ fn loop_of_a_node(rt: HostRuntime) {
 fn long_fork(rt: HostRuntime) {
     let mut cells: [Option<Worst>; 4096] = [None; 4096];
     let mut rack = TicketRack::open(&mut cells);
-    let five = ticket(&rt, rack.table(1, &ring(5)[..5]), (5, 1));
-    let thirteen = ticket(&rt, rack.table(0, &ring(13)[..13]), (13, 0));
+    let five = ticket(&rt, rack.table(1, &ring(5)), (5, 1));
+    let thirteen = ticket(&rt, rack.table(0, &ring(13)), (13, 0));
     let before = (rack.report(&five), rack.report(&thirteen));
     let (five, thirteen) = both_back(&rt, rack.fork(five, thirteen), TooLong, (1, 0));
     assert_eq!(rt; (rack.report(&five), rack.report(&thirteen)), before);

@@ -62,6 +62,7 @@ fn play<V: Told>(
     line: Line,
     place: usize,
 ) -> Result<(), Fail> {
+    // a match, since each case has arguments of its own
     match line {
         Line::Done(deed, number) => {
             assert_eq!(rt; perform(rack, deed)?, number, "line {place}");

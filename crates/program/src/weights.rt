@@ -17,6 +17,7 @@ fn add_arcs<V: Algebra>(start: V, arcs: &[Arc]) -> V
 fn add_labels<V: Algebra>(start: V, more: &Record) -> V
     ensures { V.means result ≡ added V.model (V.means start) (labels (entry more.now)) }
 {
+    // a match, since each case has arguments of its own
     match more {
         Record::Node { label, .. } | Record::Pause { label, .. } => start.add(V::weigh(*label)),
         Record::Table { arcs, .. } => add_arcs(start, arcs.as_slice()),
@@ -36,6 +37,7 @@ pub fn weight<V: Algebra>(records: &[Record]) -> V
 fn label_count(of: &Record) -> usize
     ensures { result ≡ length (labels (entry of.now)) }
 {
+    // a match, since each case has arguments of its own
     match of {
         Record::Node { .. } | Record::Pause { .. } => 1,
         Record::Table { arcs, .. } => arcs.len(),

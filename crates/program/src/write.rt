@@ -10,7 +10,7 @@ use algebra::arc::Arc;
 use algebra::label::Label;
 use std::alloc::{AllocError, Global};
 
-// Each of these says what it appends: that is its own, and a word for the equation would be no shorter.
+// Each of these says what it appends: that is its own, and a word for the equation would be no plainer.
 fn put_label(out: &mut Vec<u8>, label: Label) -> Result<(), AllocError>
     ensures { OnOk result (FitsLabel label × (out.new.items ≡ out.old.items ++ label_bytes label)) }
 {

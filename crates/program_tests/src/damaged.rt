@@ -11,6 +11,7 @@ const LOOP: [u8; 5] = [5, 0, 6, 0, 2];
 
 const TABLE: [u8; 17] = [17, 0, 3, 0, 3, 1, 0, 1, 255, 5, 0, 0, 0, 4, 0, 0, 0];
 
+// The allocator goes beside the handle, since one that may stop a test has none.
 fn reads(
     rt: &impl Abort,
     heap: Global,
@@ -47,6 +48,7 @@ fn wrong_lengths(rt: HostRuntime) -> Result<(), Fail> {
     let heap = rt.alloc();
     let cut = Some(Refusal::Cut);
     let misfit = Some(Refusal::Misfit);
+    // each length that is less than what stands before a body
     for length in 0..4u8 {
         reads(&rt, heap, &[length, 0, 6, 0, 2], 0, cut)?;
     }

@@ -1,13 +1,10 @@
 -- What a search backwards over the numbers below a bound finds.
-use Rattle.std.proofs.Common.{◌≡◌, ℕ, ◌+◌, ◌-◌, ◌<◌, ◌≤◌, Bool, true, false, None, Some, Option, MatchOption, IfSome, IsTrue, IsSomeAnd, option_map, sym, ◌∙◌, subst, arith}
+use Rattle.std.proofs.Common.{◌≡◌, ℕ, ◌+◌, ◌-◌, ◌<◌, ◌≤◌, Bool, true, false, None, Some, Option, MatchOption, IfSome, IsTrue, IsSomeAnd, sym, ◌∙◌, subst, arith}
 use Rattle.std.specs.Fn.{CalledAt}
 use Rattle.std.specs.Iterator.Runs.{Run, ItemsCountDown, CallKeepsClosure, NoItemPasses, EndsAtFirstPassing}
+use Rattle.std.proofs.lemmas.Iterator.Adapters.{option_map_id}
 use denote.Param.Members.{Mut}
 use denote.Ref.{Bor}
-
-known : (o : Option ℕ) (n : ℕ) → option_map (λ y. y) o ≡ Some n → o ≡ Some n
-known None n e = absurd (cc)
-known (Some x) n e = e
 
 -- p goes over the numbers below b, from the last one down
 pub record Down {S : Type 0} {steps : S → Option ℕ → S → Type 0} (p : Run steps) (b : ℕ) : Type 0 where
@@ -19,7 +16,7 @@ pub record Down {S : Type 0} {steps : S → Option ℕ → S → Type 0} (p : Ru
 pub down_from : {S T : Type 0} {steps : S → Option ℕ → S → Type 0} {others : T → Option ℕ → T → Type 0} (p : Run steps) (q : Run others) (a b n : ℕ) → a ≡ 0 → b ≡ n → ItemsCountDown q a b → q.len ≡ p.len → ((k : ℕ) → q.at k ≡ p.at k) → q.whole ≡ p.whole → Down p n
 down_from p q a b n from to count len same whole =
     let nth : (k : ℕ) → k < p.len → p.at k ≡ Some (n - 1 - k) =
-    λ k less. let there : b - 1 - k ≡ n - 1 - k = omega arith in sym (same k) ∙ known (q.at k) _ (count.3 k (omega arith)) ∙ (λ i. Some (there i)) in
+    λ k less. let there : b - 1 - k ≡ n - 1 - k = omega arith in sym (same k) ∙ sym (option_map_id (q.at k)) ∙ count.3 k (omega arith) ∙ (λ i. Some (there i)) in
     record {
       fits = omega (arith, count.0);
       all = λ w. omega (arith, count.1 (whole ∙ w));

@@ -1,5 +1,5 @@
 -- The way along a chain, and one number more in the chains.
-use Rattle.std.proofs.Common.{◌≡◌, ℕ, zero, suc, ◌<◌, ◌≤◌, cond, eqb, ◌≢◌, List, [], ◌∷◌, ◌++◌, length, map, get_or, set, Option, Some, None, sym, refl, ap, ◌∙◌, ⊎_elim, arith, length-append}
+use Rattle.std.proofs.Common.{◌≡◌, ℕ, zero, suc, ◌<◌, ◌≤◌, cond, eqb, ◌≢◌, List, [], ◌∷◌, ◌++◌, length, map, get_or, set, Option, Some, None, sym, refl, ap, ◌∙◌, subst, ⊎_elim, arith, length-append}
 use Rattle.std.proofs.Math.Seq.{get_or-append_seam}
 use Rattle.std.proofs.lemmas.List.{get_or-set_same, get_or-set_other, get_or_append_left, length-map, map-append}
 use Rattle.std.proofs.lemmas.Bool.{cases_eq, cond-true, cond-false, cond_both, eq-eqb, ne_eqb, eqb-true, eqb-false}
@@ -40,8 +40,13 @@ leads ks (suc n) key =
           (cases_eq j n);
     })
 
-pub shorter : (p q : Option ℕ) (k : ℕ) → q ≡ Some k → past p ≤ k → past p < past q
-shorter p q k e below = let is = ap past e in omega arith
+-- of a number that is told to be the newest
+pub leads_as : (ks : List ℕ) (n key : ℕ) {p : Option ℕ} → p ≡ newest ks n key → Leads ks n key p
+leads_as ks n key is = subst (Leads ks n key) (sym is) (leads ks n key)
+
+-- the number before k in its chain is told: what is left of the chain gets shorter
+pub shorter : (ks : List ℕ) (k : ℕ) (p q : Option ℕ) → q ≡ Some k → p ≡ newest ks k (get_or ks k 0) → past p < past q
+shorter ks k p q e is = let here = ap past e in omega (arith, (leads_as ks k (get_or ks k 0) is).within)
 
 -- what code reads past the end
 abbrev pub no_link : Link

@@ -6,7 +6,7 @@ use Rattle.rows.specs.declared.situation.Situation.{Situation}
 use Rattle.rows.specs.Chains.{newest}
 use Rattle.rows.specs.Rules.Rule.{situation}
 use Rattle.rows.specs.Situations.{chain, nth}
-use Rattle.rows.proofs.Chaining.{past, leads, Leads}
+use Rattle.rows.proofs.Chaining.{past, leads_as}
 
 -- the key of a situation noted is its chain
 key_of : (noted : List Situation) (k : ℕ) → k < length noted → get_or (map chain noted) k 0 ≡ chain (nth noted k)
@@ -19,18 +19,14 @@ pub record Ahead (noted : List Situation) (s : Situation) (p : Option ℕ) : Typ
   pub all : (j : ℕ) → j < length noted → nth noted j ≡ s → j < past p
 
 module _ (noted : List Situation) (s : Situation) where
-  -- the newest number of the chain of s, below n
-  from_here : (n : ℕ) (p : Option ℕ) → p ≡ newest (map chain noted) n (chain s) → Leads (map chain noted) n (chain s) p
-  from_here n p is = subst (Leads (map chain noted) n (chain s)) (sym is) (leads (map chain noted) n (chain s))
-
   pub ahead_first : (p : Option ℕ) → p ≡ newest (map chain noted) (length noted) (chain s) → Ahead noted s p
   ahead_first p is =
-      let first = from_here (length noted) p is in
+      let first = leads_as (map chain noted) (length noted) (chain s) is in
       record { within = first.within; inside = first.inside; all = λ j less e. first.all j less (key_of noted j less ∙ ap chain e) }
 
   pub ahead_next : (k : ℕ) (p : Option ℕ) → Ahead noted s (Some k) → (nth noted k ≡ s → ⊥) → p ≡ newest (map chain noted) k (get_or (map chain noted) k 0) → Ahead noted s p
   ahead_next k p ahead other is =
-      let next = from_here k p (is ∙ ap (newest (map chain noted) k) (ahead.inside k refl)) in
+      let next = leads_as (map chain noted) k (chain s) (is ∙ ap (newest (map chain noted) k) (ahead.inside k refl)) in
       record {
         within = omega (arith, next.within, ahead.within);
         inside = next.inside;

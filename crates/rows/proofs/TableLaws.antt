@@ -1,9 +1,9 @@
 -- Arcs gathered: in parts, along the chain of a state, and over the states of a set.
-use Rattle.std.proofs.Common.{◌≡◌, ℕ, zero, suc, ◌-◌, ◌^◌, ◌<◌, ◌≤◌, min, Bool, true, false, cond, not, ◌&&◌, eqb, List, [], ◌∷◌, ◌++◌, length, map, get_or, take, drop, filter, fold, Option, Some, None, sym, refl, ap, ◌∙◌, subst, ⊎_elim, le_refl, arith}
+use Rattle.std.proofs.Common.{◌≡◌, ℕ, zero, suc, ◌^◌, ◌<◌, ◌≤◌, min, Bool, true, false, cond, not, ◌&&◌, eqb, List, [], ◌∷◌, ◌++◌, length, map, get_or, take, drop, filter, fold, Option, Some, None, sym, refl, ap, ◌∙◌, subst, ⊎_elim, le_refl, arith}
 use Rattle.std.proofs.Math.Seq.{take-suc, take-length}
 use lib.Bits.{bit_or, or_comm, or_zero_r}
 use Rattle.std.proofs.Math.Nat.{min_comm}
-use Rattle.std.proofs.lemmas.List.{get_or-map, take_all, take_min, length-drop}
+use Rattle.std.proofs.lemmas.List.{get_or-map, take_min}
 use Rattle.std.proofs.lemmas.Bool.{cases_eq, cases_order, cond_both, eq-eqb, ne_eqb}
 use Rattle.algebra.specs.declared.arc.Arc.{Arc}
 use Rattle.algebra.specs.Model.{Model, Laws}
@@ -15,16 +15,12 @@ use Rattle.rows.specs.declared.table.Gathered.{Gathered as Held}
 use Rattle.rows.specs.Gathered.{Gathered, nothing, one, together, gathered, held}
 use Rattle.rows.specs.Sets.{has, with_member}
 use Rattle.rows.specs.Rules.Table.{stays, weights, reached}
-use Rattle.rows.proofs.Chaining.{past, Leads, leads}
+use Rattle.rows.proofs.Chaining.{past, leads_as}
 use Rattle.rows.proofs.SetLaws.{has_past}
 
 -- as many arcs as there are, up to a bound
 pub first_arcs : (bound : ℕ) (arcs : List Arc) {n : ℕ} → n ≡ min (length arcs) bound → take n arcs ≡ take bound arcs
 first_arcs bound arcs is = ap (λ (n : ℕ). take n arcs) (is ∙ min_comm (length arcs) bound) ∙ take_min bound arcs
-
--- and the rest after them
-pub rest_arcs : (arcs : List Arc) (n : ℕ) → take (length arcs - n) (drop n arcs) ≡ drop n arcs
-rest_arcs arcs n = take_all (length arcs - n) (drop n arcs) (omega (arith, length-drop n arcs))
 
 pub same_gathered : {m : Model} {a b c d : Coef m} {s t : ℕ} → a ≡ b → c ≡ d → s ≡ t → ◌≡◌ {A = Gathered m} (record { stay = a; out = c; states = s }) (record { stay = b; out = d; states = t })
 same_gathered p q r = λ i. record { stay = p i; out = q i; states = r i }
@@ -123,7 +119,7 @@ along_low along k e = let is = ap past e in omega (arith, along.within)
 module _ (m : Model) (laws : Laws m) {V : Type 0} (means : V → m.Carrier) (xs : List Arc) (q : ℕ) (start : Held V) where
   pub along_first : (p : Option ℕ) → p ≡ newest (map (λ a. a.from) xs) (length xs) q → Along m means xs q start p start
   along_first p is =
-      let first = subst (Leads (map (λ a. a.from) xs) (length xs) q) (sym is) (leads (map (λ a. a.from) xs) (length xs) q) in
+      let first = leads_as (map (λ a. a.from) xs) (length xs) q is in
       record {
         within = first.within;
         inside = first.inside;
@@ -139,7 +135,7 @@ module _ (m : Model) (laws : Laws m) {V : Type 0} (means : V → m.Carrier) (xs 
       let low : k < length xs = before.within in
       let key = before.inside k refl in
       let next' = next ∙ ap (newest (map (λ a. a.from) xs) k) key in
-      let below = subst (Leads (map (λ a. a.from) xs) k q) (sym next') (leads (map (λ a. a.from) xs) k q) in
+      let below = leads_as (map (λ a. a.from) xs) k q next' in
       let passes : test arc ≡ true = eq-eqb _ _ (ap (λ a. a.from) read ∙ sym (get_or-map (λ a. a.from) xs k d 0 low) ∙ key) in
       record {
         within = omega (arith, below.within);

@@ -1,11 +1,11 @@
 -- From noted rows to the rule's own: the least shape, and what the filled shelf gives.
-use Rattle.std.proofs.Common.{◌≡◌, ℕ, zero, suc, ◌+◌, ◌-◌, ◌*◌, ◌<◌, ◌≤◌, ltb, List, [], ◌∷◌, length, get_or, take, drop, None, Option, sym, refl, ap, ◌∙◌, ⊎_elim, arith}
+use Rattle.std.proofs.Common.{◌≡◌, ℕ, zero, suc, ◌+◌, ◌-◌, ◌*◌, ◌<◌, ◌≤◌, ltb, ◌⊎◌, List, [], ◌∷◌, length, get_or, take, drop, None, Option, sym, refl, ap, ◌∙◌, inl, inr, ⊎_elim, arith}
 use Rattle.std.proofs.lemmas.List.{get_or-take, get_or-drop, ext_get_or, length-drop}
 use Rattle.std.proofs.lemmas.Bool.{cases_lt, cond-true, cond-false, lt-ltb, le-ltb}
 use Rattle.std.specs.Option.{option_map}
 use Rattle.algebra.specs.Model.{Model}
 use Rattle.algebra.specs.Coefficients.{Coef}
-use Rattle.rows.specs.Filled.{Filled, kept_at}
+use Rattle.rows.specs.Filled.{Filled, kept_at, OfShelf}
 use Rattle.rows.specs.Phases.{phase}
 use Rattle.rows.specs.Pieces.{meanings}
 use Rattle.rows.specs.Repeats.{LeastShape}
@@ -110,3 +110,10 @@ kept_below m f row cells shelf t d low short keeps = record {
   where
     below : (j : ℕ) → j < 2048 → get_or (meanings f (take 2048 cells)) j None ≡ get_or (meanings f cells) j None
     below j less = means_below f cells 2048 j less
+
+-- a cell that is not the shelf's lies before or after it
+pub apart : (k j : ℕ) → (OfShelf k j → ⊥) → (j < 128 * k) ⊎ (128 * k + 128 ≤ j)
+apart k j out = ⊎_elim
+    (λ before. inl before)
+    (λ from. ⊎_elim (λ within. absurd (out (from, within))) (λ after. inr after) (cases_lt j (128 * k + 128)))
+    (cases_lt j (128 * k))

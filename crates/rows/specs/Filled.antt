@@ -13,6 +13,15 @@ module _ {X : Type 0} where
     pub exits : (k : ℕ) → k < 64 → slice_index_or after (128 * shelf + 64 + k) None ≡ kept_at before 3072 size k
     pub others : (j : ℕ) → (j < 128 * shelf) ⊎ (128 * shelf + 128 ≤ j) → slice_index_or after j None ≡ slice_index_or before j None
 
-  -- the cells past the 4,096 that are used are as they were
+  -- the cells past the 4,096 that are used are as they were: a word and no invariant, since it is of before and after
   abbrev pub SamePast : (before after : List (Option X)) → Type 0
   SamePast before after = drop 4096 after ≡ drop 4096 before
+
+-- cell j is one of shelf k's
+abbrev pub OfShelf : (k j : ℕ) → Type 0
+OfShelf k j = (128 * k ≤ j) × (j < 128 * k + 128)
+
+-- of the lent cells, only those of shelf k and the working cells may have changed
+pub record OnlyShelf {X : Type 0} (k : ℕ) (before after : List (Option X)) : Type 0 where
+  pub others : (j : ℕ) → j < 2048 → (OfShelf k j → ⊥) → slice_index_or after j None ≡ slice_index_or before j None
+  pub past : SamePast before after

@@ -1,8 +1,9 @@
 -- The rows of a piece, and where a shelf keeps them.
-use Rattle.std.specs.Prelude.{ℕ, ◌+◌, ◌*◌, ◌&&◌, List, map, is_some, None, Option, slice_index_or}
+use Rattle.std.specs.Prelude.{ℕ, ◌+◌, ◌*◌, ◌&&◌, List, map, take, is_some, None, Option, slice_index_or}
 use Rattle.std.specs.Option.{option_map}
 use Rattle.algebra.specs.Model.{Model}
 use Rattle.algebra.specs.Coefficients.{Coef}
+use Rattle.rows.specs.declared.cells.Cells.{Cells}
 use Rattle.rows.specs.declared.cells.Read.{Read}
 use Rattle.rows.specs.declared.piece.Piece.{Piece}
 use Rattle.rows.specs.declared.piece.Row.{Row}
@@ -62,6 +63,10 @@ on_shelf m cells shelf transient period = record {
 -- the rows of a piece
 abbrev pub rows_of : (m : Model) → List (Coef m) → Piece → Rows m
 rows_of m cells a = on_shelf m cells a.place.shelf a.shape.transient a.shape.period
+
+-- what the shelves' cells mean, of all that are lent
+abbrev pub on_shelves : {V C : Type 0} → (V → C) → Cells V → List (Option C)
+on_shelves means cells = meanings means (take 2048 cells.lent.now)
 
 -- what the kept cells mean
 abbrev pub known : {V C : Type 0} → (V → C) → Read V 2048 → List (Option C)

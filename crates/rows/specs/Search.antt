@@ -2,10 +2,16 @@
 use Rattle.std.specs.Prelude.{◌≡◌, ℕ, ◌+◌, ◌-◌, ◌<◌, ◌≤◌, cond, List, None, ◌≢◌, nat_lt, slice_index_or}
 use Rattle.algebra.specs.Model.{Model}
 use Rattle.algebra.specs.Coefficients.{Coef}
+use Rattle.rows.specs.declared.cells.Read.{Read}
+use Rattle.rows.specs.Pieces.{meanings}
 
 -- pause and exit at tick k as the working cells have them
 abbrev pub noted : (m : Model) → List (Coef m) → ℕ → Coef m × Coef m
 noted m cells k = (slice_index_or cells (2048 + k) None, slice_index_or cells (3072 + k) None)
+
+-- as a rack's room has them, by their meaning
+abbrev pub noted_in : (m : Model) {V : Type 0} → (V → m.Carrier) → Read V 4096 → ℕ → Coef m × Coef m
+noted_in m means room = noted m (meanings means room.cells.now)
 
 -- a tick of the round after the one from i up to n, taken back into that one
 abbrev pub folded : (i n k : ℕ) → ℕ

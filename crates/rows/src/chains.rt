@@ -1,4 +1,5 @@
-// Numbers from 0 on, linked in chains by a small key: from its newest number a chain goes down.
+// Numbers from 0 on, linked in chains by a small key: from its newest number a chain goes down. What has the numbers lies
+// beside, since a table's arcs are lent and would be copied; an invariant of the owner ties the two.
 ghost use Rattle.std.specs.Prelude.{◌≡◌, ◌<◌, [], ◌∷◌, ◌++◌, length, slice_index};
 ghost use Rattle.rows.specs.Chains.{keys, newest, Heads, Links};
 

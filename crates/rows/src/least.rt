@@ -1,7 +1,6 @@
 // The least shape of the rows noted up to the first repeated situation: the least period, and then the least transient.
 ghost use Rattle.std.specs.Prelude.{◌≡◌, ◌+◌, ◌-◌, ◌<◌, ◌≤◌, Decides};
-ghost use Rattle.rows.specs.Pieces.{meanings};
-ghost use Rattle.rows.specs.Search.{noted, folded, RoundHas, LeastPeriod, LeastTransient};
+ghost use Rattle.rows.specs.Search.{noted_in, folded, RoundHas, LeastPeriod, LeastTransient};
 
 use crate::cells::Room;
 use crate::walk::Turn;
@@ -12,7 +11,7 @@ impl<'a, V: Algebra> Room<'a, V> {
     // Are pause and exit the same at the two ticks?
     fn same(&self, j: usize, k: usize) -> bool
         requires { (j < 1024) × (k < 1024) }
-        ensures { Decides result (noted V.model (meanings V.means self.now.cells.now) j ≡ noted V.model (meanings V.means self.now.cells.now) k) }
+        ensures { Decides result (noted_in V.model V.means self.now j ≡ noted_in V.model V.means self.now k) }
     {
         let pauses = equal(self.cells[2048 + j], self.cells[2048 + k]);
         let exits = equal(self.cells[3072 + j], self.cells[3072 + k]);
@@ -22,7 +21,7 @@ impl<'a, V: Algebra> Room<'a, V> {
     // Is tick k the same as the one d later, taken back into the round?
     fn comes_back(&self, turn: Turn, d: usize, k: usize) -> bool
         requires { (turn.earlier ≤ k) × (k < turn.number) × (d ≤ turn.number - turn.earlier) }
-        ensures { Decides result (noted V.model (meanings V.means self.now.cells.now) (folded turn.earlier turn.number (k + d)) ≡ noted V.model (meanings V.means self.now.cells.now) k) }
+        ensures { Decides result (noted_in V.model V.means self.now (folded turn.earlier turn.number (k + d)) ≡ noted_in V.model V.means self.now k) }
     {
         let later = k + d;
         let back = if later < turn.number {
@@ -36,14 +35,14 @@ impl<'a, V: Algebra> Room<'a, V> {
     // Does the round have the period d?
     fn round_has(&self, turn: Turn, d: usize) -> bool
         requires { d ≤ turn.number - turn.earlier }
-        ensures { Decides result (RoundHas (noted V.model (meanings V.means self.now.cells.now)) turn.earlier turn.number d) }
+        ensures { Decides result (RoundHas (noted_in V.model V.means self.now) turn.earlier turn.number d) }
     {
         (turn.earlier..turn.number).all(|k| self.comes_back(turn, d, k))
     }
 
     // The least period of the round.
     pub fn least_period(&self, turn: Turn) -> usize
-        ensures { LeastPeriod (noted V.model (meanings V.means self.now.cells.now)) turn.earlier turn.number result }
+        ensures { LeastPeriod (noted_in V.model V.means self.now) turn.earlier turn.number result }
     {
         let round = turn.number - turn.earlier;
         (1..round)
@@ -54,7 +53,7 @@ impl<'a, V: Algebra> Room<'a, V> {
     // The least tick from which the rows have the period d up to i.
     pub fn least_transient(&self, i: usize, d: usize) -> usize
         requires { i + d < 1024 }
-        ensures { LeastTransient (noted V.model (meanings V.means self.now.cells.now)) i d result }
+        ensures { LeastTransient (noted_in V.model V.means self.now) i d result }
     {
         (0..i)
             .rev()

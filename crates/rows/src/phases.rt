@@ -1,4 +1,5 @@
-// Phases: where a tick falls in a shape.
+// Phases: where a tick falls in a shape. That k is a phase is asked by one word: a type for it would carry a shape in every
+// situation.
 ghost use Rattle.std.specs.Prelude.{◌≡◌, ℕ, ◌+◌, ◌≤◌};
 ghost use Rattle.rows.specs.Phases.{after as phase_after, IsPhase, Phases};
 

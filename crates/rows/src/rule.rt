@@ -26,6 +26,7 @@ pub trait RowRule {
     // the rule over the cells of its pieces, for any algebra: its meaning is the two rows of it
     ghost works: { Self → (m : Model) → List (Coef m) → Rule m };
 
+    // no default: each rule proves that its own first situation is this
     fn first<V: Algebra>(&self) -> Situation
         ensures value { (cells : List (Coef V.Algebra.model)) → result ≡ (works self.now V.Algebra.model cells).first }
         ensures fits { fits self.now result };

@@ -35,7 +35,7 @@ impl Situations {
     pub fn find(&self, s: Situation) -> Option<usize>
         ensures { MatchOption result ((k : ℕ) → k < length self.now.noted.items → nth self.now.noted.items k ≡ s → ⊥) (λ i. (i < length self.now.noted.items) × (nth self.now.noted.items i ≡ s)) }
     {
-        // along the chain, which is no list that could be gone over
+        // `iter::successors` is not known to end, and an iterator of its own would state the chain's order again
         let mut next = self.chains.head(chain(s));
         while let Some(number) = next {
             let k = number as usize;

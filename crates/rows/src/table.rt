@@ -83,6 +83,7 @@ impl<'a> Table<'a> {
         ensures { held V.model V.means result ≡ together V.model (held V.model V.means sofar) (gathered V.model (λ a. a.from == state) (take 1024 self.now.arcs.now)) }
     {
         let mut all = sofar;
+        // a `while`, as in `Situations::find`: what it keeps from link to link is another fact here
         let mut next = self.chains.head(state);
         while let Some(number) = next {
             let k = number as usize;

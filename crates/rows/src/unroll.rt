@@ -1,8 +1,8 @@
 // Unrolling: a rule's rows, in their least shape, onto a shelf. Written once, for every rule and every algebra.
-ghost use Rattle.std.specs.Prelude.{◌≡◌, ℕ, ◌+◌, ◌*◌, ◌<◌, ◌≤◌, ◌⊎◌, take, None as absent, MatchResult, slice_index_or};
-ghost use Rattle.rows.specs.Filled.{SamePast};
+ghost use Rattle.std.specs.Prelude.{◌≡◌, take, MatchResult};
+ghost use Rattle.rows.specs.Filled.{OnlyShelf};
 ghost use Rattle.rows.specs.Outcomes.{Refused};
-ghost use Rattle.rows.specs.Pieces.{meanings};
+ghost use Rattle.rows.specs.Pieces.{on_shelves};
 ghost use Rattle.rows.specs.Unrolled.{Unrolls};
 
 use crate::cells::Cells;
@@ -19,9 +19,8 @@ pub fn unroll<R: RowRule, V: Algebra>(
     cells: &mut Cells<V>,
     place: Place,
 ) -> Result<Unrolled, Unkept>
-    ensures past { SamePast cells.old.lent.now cells.new.lent.now }
-    ensures others { (j : ℕ) → j < 2048 → (j < 128 * place.shelf) ⊎ (128 * place.shelf + 128 ≤ j) → slice_index_or cells.new.lent.now j absent ≡ slice_index_or cells.old.lent.now j absent }
-    ensures cases { let over = R.RowRule.works rule.now V.Algebra.model (meanings V.Algebra.means (take 2048 cells.old.lent.now)) in MatchResult result (λ u. Unrolls over u.reply place.shelf u.shape.transient u.shape.period (meanings V.Algebra.means (take 2048 cells.new.lent.now))) (λ no. Refused over no × (take 2048 cells.new.lent.now ≡ take 2048 cells.old.lent.now)) }
+    ensures only { OnlyShelf place.shelf cells.old.lent.now cells.new.lent.now }
+    ensures cases { let over = R.RowRule.works rule.now V.Algebra.model (on_shelves V.Algebra.means cells.old) in MatchResult result (λ u. Unrolls over u.reply place.shelf u.shape.transient u.shape.period (on_shelves V.Algebra.means cells.new)) (λ no. Refused over no × (take 2048 cells.new.lent.now ≡ take 2048 cells.old.lent.now)) }
 {
     let turn = walk(rule, cells).ok_or(Unkept::NeverSoon)?;
     let noted = cells.room();

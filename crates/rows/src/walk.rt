@@ -1,7 +1,7 @@
 // The walk of a rule: situations from the first on, noted with their rows until one equals an earlier one.
 ghost use Rattle.std.specs.Prelude.{◌≡◌, ℕ, ◌-◌, ◌<◌, take, MatchOption};
 ghost use Rattle.rows.specs.Filled.{SamePast};
-ghost use Rattle.rows.specs.Pieces.{meanings};
+ghost use Rattle.rows.specs.Pieces.{meanings, on_shelves};
 ghost use Rattle.rows.specs.Repeats.{Repeats, NoRepeat};
 ghost use Rattle.rows.specs.Rules.Rule.{Rule, at, rows};
 ghost use Rattle.rows.specs.Search.{noted};
@@ -30,7 +30,7 @@ pub fn repeating_stands<V: Algebra>()
 pub fn walk<R: RowRule, V: Algebra>(rule: &R, cells: &mut Cells<V>) -> Option<Turn>
     ensures below { take 2048 cells.new.lent.now ≡ take 2048 cells.old.lent.now }
     ensures past { SamePast cells.old.lent.now cells.new.lent.now }
-    ensures cases { let over = R.RowRule.works rule.now V.Algebra.model (meanings V.Algebra.means (take 2048 cells.old.lent.now)) in MatchOption result (NoRepeat (at over) 1024) (λ t. (at over t.earlier ≡ at over t.number) × NoRepeat (at over) t.number × ((k : ℕ) → k < t.number → noted V.Algebra.model (meanings V.Algebra.means cells.new.lent.now) k ≡ rows over k)) }
+    ensures cases { let over = R.RowRule.works rule.now V.Algebra.model (on_shelves V.Algebra.means cells.old) in MatchOption result (NoRepeat (at over) 1024) (λ t. (at over t.earlier ≡ at over t.number) × NoRepeat (at over) t.number × ((k : ℕ) → k < t.number → noted V.Algebra.model (meanings V.Algebra.means cells.new.lent.now) k ≡ rows over k)) }
 {
     let mut seen = Situations::new();
     let mut s = rule.first::<V>();

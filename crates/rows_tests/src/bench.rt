@@ -19,6 +19,7 @@ pub trait Figure: Algebra {
     fn figure(self) -> u32;
 }
 
+// An impl for each, as worst and best are two types for a reason that stands beside best.
 impl Figure for Worst {
     fn figure(self) -> u32 {
         self.cycles

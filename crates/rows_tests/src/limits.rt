@@ -9,29 +9,24 @@ use rows::unroll::unroll;
 use std::process::Abort;
 use std::test::Fail;
 
-// What is said of two rings beside each other.
-fn said(rt: &impl Abort, one: usize, two: usize) -> &'static str {
+// Two rings beside each other, unrolled: where they are kept, the reply is the period.
+fn beside(rt: &impl Abort, one: usize, two: usize) -> Result<(), Unkept> {
     let cells = &mut Cells {
         lent: &mut [None; 4096],
     };
     let a = ring(rt, cells, 0, Worst { cycles: 1 }, one);
     let b = ring(rt, cells, 1, Worst { cycles: 2 }, two);
-    match unroll(&Fork { a, b }, cells, Place { shelf: 2 }) {
-        Ok(u) => {
-            assert_eq!(rt; (u.reply, u.shape.transient), (u.shape.period, 0));
-            "kept"
-        }
-        Err(Unkept::TooLong) => "too long",
-        Err(Unkept::NeverSoon) => "never soon",
-    }
+    let u = unroll(&Fork { a, b }, cells, Place { shelf: 2 })?;
+    assert_eq!(rt; (u.reply, u.shape.transient), (u.shape.period, 0));
+    Ok(())
 }
 
 #[test]
 fn lengths(rt: HostRuntime) -> Result<(), Fail> {
-    assert_eq!(rt; said(&rt, 64, 1), "kept");
-    assert_eq!(rt; said(&rt, 9, 7), "kept");
-    assert_eq!(rt; said(&rt, 13, 5), "too long");
-    assert_eq!(rt; said(&rt, 33, 31), "too long");
-    assert_eq!(rt; said(&rt, 41, 25), "never soon");
+    assert_eq!(rt; beside(&rt, 64, 1), Ok(()));
+    assert_eq!(rt; beside(&rt, 9, 7), Ok(()));
+    assert_eq!(rt; beside(&rt, 13, 5), Err(Unkept::TooLong));
+    assert_eq!(rt; beside(&rt, 33, 31), Err(Unkept::TooLong));
+    assert_eq!(rt; beside(&rt, 41, 25), Err(Unkept::NeverSoon));
     Ok(())
 }

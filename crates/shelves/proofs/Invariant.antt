@@ -15,7 +15,8 @@ use Rattle.runs.specs.declared.step.Step.{Step}
 use Rattle.runs.proofs.EachKind.{same_rows}
 use Rattle.runs.proofs.Steps.{stays}
 use Rattle.shelves.specs.Book.{Pages, with_page}
-use Rattle.shelves.specs.Effects.{OfShelf, Blank, Puts, Empties}
+use Rattle.rows.specs.Filled.{OfShelf}
+use Rattle.shelves.specs.Effects.{Blank, Puts, Empties}
 use Rattle.shelves.specs.State.{State, ShelfState, empty_shelf, shelf_at}
 use Rattle.shelves.proofs.Alive.{Alive}
 use Rattle.shelves.proofs.ShelfCells.{same_pauses, same_exits, same_shelved, kept_shelved}

@@ -3,6 +3,7 @@ use Rattle.std.proofs.Common.{◌≡◌, ℕ, zero, suc, ◌+◌, ◌-◌, ◌*�
 use Rattle.std.proofs.lemmas.List.{length-set}
 use Rattle.std.proofs.lemmas.Bool.{cases_lt, cond-false, le-ltb}
 use Rattle.std.specs.Option.{option_map}
+use Rattle.std.proofs.lemmas.Option.{none-some}
 use Rattle.algebra.specs.declared.label.Label.{Label}
 use Rattle.algebra.specs.Model.{Model}
 use Rattle.algebra.specs.Coefficients.{Coef}
@@ -12,13 +13,10 @@ use Rattle.rows.specs.Pieces.{meanings}
 use Rattle.rows.specs.Search.{noted}
 use Rattle.rows.specs.Unrolled.{Keeps}
 use Rattle.rows.proofs.Ranges.{up_to}
-use Rattle.rows.proofs.Unrolling.{shelf_keeps, kept_below, agree_below, same_past}
+use Rattle.rows.proofs.Unrolling.{apart, shelf_keeps, kept_below, agree_below, same_past}
 use Rattle.rows.proofs.Walking.{noted_now, noted_then, shelves_same, past_same}
-use Rattle.shelves.specs.Effects.{OfShelf, OnlyShelf, node_row, pause_row}
-
--- a present coefficient is not absent
-some_none : {X : Type 0} (x : X) → Some x ≡ None → ⊥
-some_none x e = let z : ◌≡◌ {A = ℕ} 0 1 = cc in omega arith
+use Rattle.rows.specs.Filled.{OfShelf, OnlyShelf}
+use Rattle.shelves.specs.Effects.{node_row, pause_row}
 
 pub node_shape : (m : Model) (l : Label) → LeastShape (node_row m l) 1 1
 node_shape m l = record {
@@ -26,7 +24,7 @@ node_shape m l = record {
   repeats = again;
   least_period = λ t d pos r. pos;
   least_transient = λ t r. ⊎_elim
-      (λ less. absurd (some_none (m.weigh l) (sym (ap (λ x. x.1) (r 0 (omega arith))))))
+      (λ less. absurd (none-some (m.weigh l) (ap (λ x. x.1) (r 0 (omega arith)))))
       (λ more. more)
       (cases_lt t 1);
 }
@@ -41,7 +39,7 @@ pause_shape m l = record {
   repeats = again;
   least_period = λ t d pos r. pos;
   least_transient = λ t r. ⊎_elim
-      (λ less. absurd (some_none m.unit (sym (ap (λ x. x.1) (r 1 (omega arith))))))
+      (λ less. absurd (none-some m.unit (ap (λ x. x.1) (r 1 (omega arith)))))
       (λ more. more)
       (cases_lt t 2);
 }
@@ -50,13 +48,6 @@ pause_shape m l = record {
     again zero h = absurd (omega arith)
     again (suc zero) h = absurd (omega arith)
     again (suc (suc n)) h = ap (pause_row m l) {x = suc (suc n) + 1} {y = suc (suc (suc n))} (omega arith)
-
--- a cell that is not the shelf's lies before or after it
-pub apart : (k j : ℕ) → (OfShelf k j → ⊥) → (j < 128 * k) ⊎ (128 * k + 128 ≤ j)
-apart k j out = ⊎_elim
-    (λ before. inl before)
-    (λ from. ⊎_elim (λ within. absurd (out (from, within))) (λ after. inr after) (cases_lt j (128 * k + 128)))
-    (cases_lt j (128 * k))
 
 -- n ticks of a row are noted in the working cells, and nothing else has changed
 module _ (m : Model) {V : Type 0} (f : V → m.Carrier) (row : ℕ → Coef m × Coef m) (before : List (Option V)) where

@@ -8,7 +8,8 @@ use Rattle.rows.specs.Pieces.{meanings}
 use Rattle.rows.specs.Unrolled.{Keeps}
 use Rattle.runs.specs.declared.step.Step.{Step}
 use Rattle.shelves.specs.declared.core_state.Core.{Core}
-use Rattle.shelves.specs.Effects.{OfShelf, OnlyShelf, Puts}
+use Rattle.rows.specs.Filled.{OfShelf, OnlyShelf}
+use Rattle.shelves.specs.Effects.{Puts}
 use Rattle.shelves.specs.Held.{state_of}
 use Rattle.shelves.specs.Tables.{shelves_of}
 use Rattle.shelves.proofs.Unchanged.{others_mean, same_length}

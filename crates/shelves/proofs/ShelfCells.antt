@@ -9,7 +9,7 @@ use Rattle.rows.specs.Unrolled.{Keeps}
 use Rattle.rows.proofs.PhaseLaws.{phase_within}
 use Rattle.runs.specs.OneShape.{Shelved}
 use Rattle.runs.proofs.OneShape.{repeats_too}
-use Rattle.shelves.specs.Effects.{OfShelf}
+use Rattle.rows.specs.Filled.{OfShelf}
 
 -- equal rows have one least shape
 least_like : {X : Type 0} (row like : ℕ → X) (t d : ℕ) → ((n : ℕ) → row n ≡ like n) → LeastShape row t d → LeastShape like t d

@@ -4,7 +4,7 @@ use Rattle.algebra.specs.declared.arc.Arc.{Arc}
 use Rattle.algebra.specs.declared.label.Label.{Label}
 use Rattle.algebra.specs.Model.{Model}
 use Rattle.algebra.specs.Coefficients.{Coef, join}
-use Rattle.rows.specs.Filled.{SamePast}
+use Rattle.rows.specs.Filled.{OfShelf}
 use Rattle.rows.specs.Pieces.{Rows, size, pause_at, exit_at}
 use Rattle.rows.specs.Repeats.{FirstRepeat}
 use Rattle.rows.specs.Rules.Rule.{Rule, at, rows}
@@ -38,15 +38,6 @@ pair_step Choice i j = step.Choice i j
 pair_step Sequence i j = step.Sequence i j
 pair_step Fork i j = step.Fork i j
 pair_step Abort i j = step.Abort i j
-
--- cell j is one of shelf k's
-abbrev pub OfShelf : (k j : ℕ) → Type 0
-OfShelf k j = (128 * k ≤ j) × (j < 128 * k + 128)
-
--- of the lent cells, only those of shelf k and the working cells may have changed
-pub record OnlyShelf {X : Type 0} (k : ℕ) (before after : List (Option X)) : Type 0 where
-  pub others : (j : ℕ) → j < 2048 → (OfShelf k j → ⊥) → slice_index_or after j None ≡ slice_index_or before j None
-  pub past : SamePast before after
 
 module _ (m : Model) where
   -- the cells of shelf k are all absent

@@ -1,7 +1,7 @@
 -- The state of a rack, from what it holds.
 use Rattle.std.specs.Prelude.{length, take, drop}
 use Rattle.algebra.specs.Model.{Model}
-use Rattle.rows.specs.Pieces.{meanings}
+use Rattle.rows.specs.Pieces.{meanings, on_shelves}
 use Rattle.shelves.specs.declared.call.Call.{Call as Made}
 use Rattle.shelves.specs.declared.call.Call.TheVariants as made
 use Rattle.shelves.specs.declared.core_state.Core.{Core}
@@ -11,7 +11,7 @@ use Rattle.shelves.specs.Tables.{shelves_of}
 
 abbrev pub state_of : (m : Model) {V : Type 0} → (V → m.Carrier) → Core V → State m
 state_of m means core = record {
-  cells = meanings means (take 2048 core.cells.lent.now);
+  cells = on_shelves means core.cells;
   shelves = shelves_of core.shelves;
   steps = core.steps.items;
   arcs = core.arcs.items;

@@ -1,7 +1,7 @@
 // Asking a call's questions in their order.
 ghost use Rattle.std.specs.Prelude.{◌≡◌, ◌+◌, ◌*◌, true, false, not, take, is_some, None as absent, Decides, MatchResult, slice_index_or};
 ghost use Rattle.std.specs.List.{AllByRecursion};
-ghost use Rattle.rows.specs.Pieces.{meanings};
+ghost use Rattle.rows.specs.Pieces.{on_shelves};
 ghost use Rattle.shelves.specs.Calls.{about};
 ghost use Rattle.shelves.specs.Inner.{CoreSaysYes, CoreSaysNo};
 ghost use Rattle.shelves.specs.Held.{call_of};
@@ -17,7 +17,7 @@ use rows::cells::Cells;
 
 // Is the exit of shelf k absent at tick 0?
 fn stays<V: Algebra>(cells: &Cells<V>, k: u8) -> bool
-    ensures { is_some (slice_index_or (meanings V.means (take 2048 cells.now.lent.now)) (128 * k + 64 + 0) absent) ≡ not result }
+    ensures { is_some (slice_index_or (on_shelves V.means cells.now) (128 * k + 64 + 0) absent) ≡ not result }
 {
     if k > 15 {
         return true;
@@ -28,8 +28,9 @@ fn stays<V: Algebra>(cells: &Cells<V>, k: u8) -> bool
 
 // Is a loop's exit absent at tick 0?
 fn staying<V: Algebra>(cells: &Cells<V>, call: Call) -> bool
-    ensures { Decides result (AllByRecursion (λ k. is_some (slice_index_or (meanings V.means (take 2048 cells.now.lent.now)) (128 * k + 64 + 0) absent) ≡ false) (about (call_of call.entry)).looped) }
+    ensures { Decides result (AllByRecursion (λ k. is_some (slice_index_or (on_shelves V.means cells.now) (128 * k + 64 + 0) absent) ≡ false) (about (call_of call.entry)).looped) }
 {
+    // a match, as in the other questions
     match call {
         Call::Loop { shelf } => stays(cells, shelf),
         _ => true,

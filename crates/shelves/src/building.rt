@@ -1,6 +1,6 @@
 // Building: what an accepted call does to what a rack holds.
 ghost use Rattle.std.specs.Prelude.{◌≡◌, ◌<◌, [], ◌∷◌, ◌++◌, length, take, set, Some as present};
-ghost use Rattle.rows.specs.Pieces.{meanings};
+ghost use Rattle.rows.specs.Pieces.{on_shelves};
 ghost use Rattle.runs.specs.declared.step.Step.TheVariants.{Node as node_step, Pause as pause_step};
 ghost use Rattle.shelves.specs.Inner.{CorePuts, CoreEmpties, CoreBuilt};
 ghost use Rattle.shelves.specs.Effects.{node_row, pause_row};
@@ -88,7 +88,7 @@ pub(crate) fn build<R: RowRule, V: Algebra>(
     step: Step,
 ) -> Result<usize, Refusal>
     requires { length core.old.steps.items < 512 }
-    ensures does { CoreBuilt V.Algebra.model V.Algebra.means (R.RowRule.works rule.now V.Algebra.model (meanings V.Algebra.means (take 2048 core.old.cells.lent.now))) place.shelf step [] core.old core.new result }
+    ensures does { CoreBuilt V.Algebra.model V.Algebra.means (R.RowRule.works rule.now V.Algebra.model (on_shelves V.Algebra.means core.old.cells)) place.shelf step [] core.old core.new result }
     ensures arcs { core.new.arcs ≡ core.old.arcs }
 {
     let unrolled = unroll(rule, &mut core.cells, place)?;

@@ -13,7 +13,7 @@ pub(crate) struct Filled {
     pub(crate) step: usize,
 }
 
-// The place that a call names.
+// The place that a call names. No `TryFrom`: that it is one of 16 was asked before.
 pub(crate) fn place(shelf: u8) -> Place
     requires { shelf ≤ 15 }
     ensures { result.shelf ≡ shelf }

@@ -1,8 +1,9 @@
 // The rows of a leaf, and none, written on a shelf.
 ghost use Rattle.std.specs.Prelude.{take};
-ghost use Rattle.rows.specs.Pieces.{meanings};
+ghost use Rattle.rows.specs.Pieces.{on_shelves};
 ghost use Rattle.rows.specs.Unrolled.{Keeps};
-ghost use Rattle.shelves.specs.Effects.{Blank, OnlyShelf, node_row, pause_row};
+ghost use Rattle.rows.specs.Filled.{OnlyShelf};
+ghost use Rattle.shelves.specs.Effects.{Blank, node_row, pause_row};
 
 use algebra::algebra::Algebra;
 use algebra::label::Label;
@@ -11,7 +12,7 @@ use rows::place::Place;
 
 // A node: its weight on exit at tick 0.
 pub(crate) fn write_node<V: Algebra>(cells: &mut Cells<V>, place: Place, label: Label)
-    ensures keeps { Keeps V.model (node_row V.model label) place.shelf 1 1 (meanings V.means (take 2048 cells.new.lent.now)) }
+    ensures keeps { Keeps V.model (node_row V.model label) place.shelf 1 1 (on_shelves V.means cells.new) }
     ensures only { OnlyShelf place.shelf cells.old.lent.now cells.new.lent.now }
 {
     cells.note(0, None, Some(V::weigh(label)));
@@ -21,7 +22,7 @@ pub(crate) fn write_node<V: Algebra>(cells: &mut Cells<V>, place: Place, label: 
 
 // A pause: its weight on pause at tick 0, and the unit on exit at tick 1.
 pub(crate) fn write_pause<V: Algebra>(cells: &mut Cells<V>, place: Place, label: Label)
-    ensures keeps { Keeps V.model (pause_row V.model label) place.shelf 2 1 (meanings V.means (take 2048 cells.new.lent.now)) }
+    ensures keeps { Keeps V.model (pause_row V.model label) place.shelf 2 1 (on_shelves V.means cells.new) }
     ensures only { OnlyShelf place.shelf cells.old.lent.now cells.new.lent.now }
 {
     cells.note(0, Some(V::weigh(label)), None);
@@ -32,7 +33,7 @@ pub(crate) fn write_pause<V: Algebra>(cells: &mut Cells<V>, place: Place, label:
 
 // No rows: every cell of the shelf is absent.
 pub(crate) fn blank<V: Algebra>(cells: &mut Cells<V>, place: Place)
-    ensures blank { Blank V.model place.shelf (meanings V.means (take 2048 cells.new.lent.now)) }
+    ensures blank { Blank V.model place.shelf (on_shelves V.means cells.new) }
     ensures only { OnlyShelf place.shelf cells.old.lent.now cells.new.lent.now }
 {
     cells.fill(place, 0);

@@ -15,7 +15,7 @@ pub fn enough<V: Algebra>(cells: &[Option<V>]) -> bool
 }
 
 // Opens over lent cells: those past the first 4,096 are untouched. The history begins. It takes the slice itself, of which
-// `enough` was asked, since a `Cells` would have a caller bring more than that answer.
+// `enough` was asked, since a narrower type would ask more of callers than the slice does.
 pub fn open<'a, V: Algebra>(cells: &'a mut [Option<V>]) -> Core<'a, V>
     requires { 4096 ≤ length cells.old }
     ensures { CoreOpens V.model V.means cells.old result }

@@ -23,6 +23,7 @@ pub trait Shown: Algebra + Display {
     ghost prints: { (v : Self) → Self.output v ≡ Some (words v) };
 }
 
+// An impl for each, as worst and best are two types for a reason that stands beside best.
 impl Shown for Worst {
     ghost named = { codes "worst" };
 

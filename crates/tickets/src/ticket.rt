@@ -30,7 +30,7 @@ pub struct Back {
     pub why: Refusal,
 }
 
-// A refused call's two tickets, handed back.
+// A refused call's two tickets, handed back. Not a `Back` of some type: the tickets would have no names.
 pub struct BothBack {
     pub first: Ticket,
     pub second: Ticket,

@@ -29,8 +29,8 @@ pub struct TicketRack<'a, V: Algebra> {
 }
 
 // `CoreAnswers call reply before after` is the whole promise of a call: specs/Promise.antt of `shelves`, docs/PROMISE.md in words.
-// Each call has a name of its own, since `choice(a, b)` says more plainly what is meant than `pair(Choice, a, b)`; what they
-// share is said once below them.
+// Each call has a name of its own, since `choice(a, b)` says more plainly what is meant than `pair(Choice, a, b)`; what both
+// racks share is said once, in `shelves`.
 impl<'a, V: Algebra> TicketRack<'a, V> {
     // A new rack over lent cells, after `enough` said yes of them. The history begins.
     pub fn open(cells: &'a mut [Option<V>]) -> TicketRack<'a, V>

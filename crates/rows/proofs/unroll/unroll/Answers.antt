@@ -3,15 +3,14 @@ use Rattle.std.proofs.lemmas.Option.{MatchOption-at_some}
 use Rattle.rows.specs.Pieces.{meanings}
 use Rattle.rows.specs.Rules.Rule.{rows}
 use Rattle.rows.specs.Search.{noted}
-use Rattle.rows.proofs.Unrolling.{shape_of, agree_below, shelf_keeps, same_past, kept_below}
+use Rattle.rows.proofs.Unrolling.{apart, shape_of, agree_below, shelf_keeps, same_past, kept_below}
 use Rattle.rows.proofs.unroll.unroll.Goals as goal
 
 pub returns-in_err-turn : goal.returns-in_err-turn
 returns-in_err-turn g c =
     let kept = c.walk.ensures.below in
     record {
-      past = c.walk.ensures.past;
-      others = λ j low out. agree_below _ _ 2048 kept j low;
+      only = record { others = λ j low out. agree_below _ _ 2048 kept j low; past = c.walk.ensures.past };
       cases = search (rules, kept);
     }
 
@@ -26,8 +25,7 @@ returns-then-transient-period-gt64 g c =
     let earlier = c.in_ok-turn.turn.earlier in
     let order = c.in_ok-turn.turn.order in
     record {
-      past = c.walk.ensures.past;
-      others = λ j low out. agree_below _ _ 2048 kept j low;
+      only = record { others = λ j low out. agree_below _ _ 2048 kept j low; past = c.walk.ensures.past };
       cases = (
         record {
           reply = number;
@@ -63,8 +61,10 @@ returns g c =
     (λ k less. ap (λ xs. noted m (meanings f xs) k) c.room-noted.ensures ∙ turn.2 k less) c.least_period-period.ensures c.least_transient-transient.ensures in
     let few : t + d ≤ number = omega (arith, order) in
     record {
-      past = same_past after before 4096 filled.len (λ j far. filled.others j (inr (omega arith))) ∙ c.walk.ensures.past;
-      others = λ j low out. filled.others j out ∙ agree_below _ _ 2048 kept j low;
+      only = record {
+        others = λ j low out. filled.others j (apart shelf j out) ∙ agree_below _ _ 2048 kept j low;
+        past = same_past after before 4096 filled.len (λ j far. filled.others j (inr (omega arith))) ∙ c.walk.ensures.past;
+      };
       cases = record {
         soon = c.in_ok-turn.turn.soon;
         first = record { earlier = (earlier, order, turn.0); fresh = turn.1 };

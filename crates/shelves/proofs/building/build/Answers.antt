@@ -3,9 +3,7 @@ use Rattle.std.proofs.lemmas.Result.{err_from_is_err_and}
 use Rattle.algebra.specs.Coefficients.{Coef}
 use Rattle.rows.specs.Pieces.{meanings}
 use Rattle.rows.specs.Rules.Rule.{rows}
-use Rattle.shelves.specs.Effects.{OnlyShelf}
 use Rattle.shelves.specs.Tables.{shelves_of}
-use Rattle.shelves.proofs.LeafRows.{apart}
 use Rattle.shelves.proofs.Settled.{settled}
 use Rattle.shelves.proofs.Stopping.{stopped}
 use Rattle.shelves.proofs.Unchanged.{same_length}
@@ -21,11 +19,10 @@ returns g c =
     let shape = c.in_ok-unrolled.unrolled.shape in
     let is = c.in_ok-unrolled.ensures in
     let noted = c.settle.ensures in
-    let only : OnlyShelf k core.cells.lent.now c.unroll.new.cells.lent.now = record { others = λ j less out. is.others j less (apart k j out); past = is.past } in
     record {
       does = (
         (is.cases.soon, is.cases.first),
-        settled m f (rows (over (meanings f (take 2048 core.cells.lent.now)))) k shape.transient shape.period c.args.step core c.settle.new.core c.unroll.new.cells shape.most is.cases.keeps only noted.cells noted.shelves noted.steps noted.arcs,
+        settled m f (rows (over (meanings f (take 2048 core.cells.lent.now)))) k shape.transient shape.period c.args.step core c.settle.new.core c.unroll.new.cells shape.most is.cases.keeps is.only noted.cells noted.shelves noted.steps noted.arcs,
       );
       arcs = noted.arcs;
     }
@@ -40,8 +37,8 @@ returns-in_err-unrolled g c =
     let no = c.in_err-unrolled.field-0.0 in
     let refusal = c.in_err-unrolled.ensures.cases in
     let same = ap (meanings f) refusal.1 in
-    let lent = same_length 4096 core.cells.lent.now c.unroll.new.cells.lent.now core.cells.room c.unroll.new.cells.room c.in_err-unrolled.ensures.past in
-    let past = ap (meanings f) c.in_err-unrolled.ensures.past in
+    let lent = same_length 4096 core.cells.lent.now c.unroll.new.cells.lent.now core.cells.room c.unroll.new.cells.room c.in_err-unrolled.ensures.only.past in
+    let past = ap (meanings f) c.in_err-unrolled.ensures.only.past in
     record {
       does = rw (p.1, p.2) (
         stopped (over (meanings f (take 2048 core.cells.lent.now))) no refusal.0,

@@ -1,6 +1,6 @@
 use Rattle.std.proofs.Common.{set, refl, ap, ◌∙◌}
 use Rattle.rows.specs.Pieces.{meanings}
-use Rattle.shelves.specs.Effects.{OfShelf}
+use Rattle.rows.specs.Filled.{OfShelf}
 use Rattle.shelves.specs.Tables.{shelves_of}
 use Rattle.shelves.proofs.Unchanged.{others_mean, same_length}
 use Rattle.shelves.proofs.building.empty.Goals as goal

@@ -2,7 +2,7 @@ use Rattle.std.proofs.Common.{◌≡◌, ℕ, ◌≤◌, get_or, length, ap, sym
 use Rattle.rows.specs.Chains.{keys, newest}
 use Rattle.rows.specs.Situations.{chain, nth}
 use Rattle.rows.specs.Rules.Rule.{situation}
-use Rattle.rows.proofs.Chaining.{past, leads, shorter, count_keyed}
+use Rattle.rows.proofs.Chaining.{shorter, count_keyed}
 use Rattle.rows.proofs.Seeking.{Ahead, ahead_first, ahead_next}
 use Rattle.rows.proofs.situations.Situations.find.Goals as goal
 
@@ -18,10 +18,7 @@ loop-next-init c =
     ∙ ap (λ ks. newest ks (length self.noted.items) (chain s)) self.keyed)
 
 pub loop-next-smaller : goal.loop-next-smaller
-loop-next-smaller c =
-    let ks = keys c.args.self.now.chains.links.items in
-    let k = c.in-Some.number in
-    shorter _ c.loop-next.next k c.in-Some.is (subst (λ p. past p ≤ k) (sym c.before-next.ensures) (leads ks k (get_or ks k 0)).within)
+loop-next-smaller c = shorter _ c.in-Some.number _ c.loop-next.next c.in-Some.is c.before-next.ensures
 
 pub loop-next-preserved : goal.loop-next-preserved
 loop-next-preserved c =

@@ -1,13 +1,13 @@
 use Rattle.std.proofs.Common.{drop, take, sym, ap, ◌∙◌, rules}
 use borrow.Author.Tests.{tests}
-use Rattle.std.proofs.lemmas.List.{take-append-drop}
+use Rattle.std.proofs.lemmas.List.{take-append-drop, take_rest}
 use Rattle.std.proofs.lemmas.Iterator.{YieldsList-from_slice}
 use Rattle.std.proofs.lemmas.Iterator.Consumers.{YieldsList-from_filter}
 use Rattle.algebra.specs.declared.arc.Arc.{Arc}
 use Rattle.rows.specs.Gathered.{one, together, gathered, held}
 use Rattle.rows.specs.Sets.{has}
 use Rattle.rows.proofs.Folds.{fold_read}
-use Rattle.rows.proofs.TableLaws.{fold_gathered, gathered-append, first_arcs, rest_arcs}
+use Rattle.rows.proofs.TableLaws.{fold_gathered, gathered-append, first_arcs}
 use Rattle.algebra.proofs.AlgebraLaws.{laws_of}
 use Rattle.rows.proofs.table.Table.follow.Goals as goal
 
@@ -18,7 +18,7 @@ returns g c =
     let arcs = c.args.self.now.arcs.now in
     let test = λ (a : Arc). has set a.from in
     let n = c.min.result in
-    let rest = c.iter.ensures.rest ∙ rest_arcs arcs n in
+    let rest = c.iter.ensures.rest ∙ take_rest arcs n in
     fold_read _ (held m g.V.Algebra.means) (λ all arc. together m all (one m arc)) _ _ c.fold.ensures.ran
     (YieldsList-from_filter _ test (YieldsList-from_slice (drop n arcs) (cc)) c.filter.ensures.closure (λ x b q k. search (rules, tests)))
     (λ s x b q k. search rules)

@@ -2,7 +2,7 @@ use Rattle.std.proofs.Common.{ℕ, ◌<◌, ◌≤◌, length, get_or, take, sym
 use Rattle.std.proofs.lemmas.List.{get_or-take, length-take}
 use Rattle.algebra.specs.declared.arc.Arc.{Arc}
 use Rattle.rows.specs.Chains.{keys, newest}
-use Rattle.rows.proofs.Chaining.{past, leads, shorter, count_keyed}
+use Rattle.rows.proofs.Chaining.{shorter, count_keyed}
 use Rattle.rows.proofs.TableLaws.{Along, along_low, along_first, along_next, along_end}
 use Rattle.algebra.proofs.AlgebraLaws.{laws_of}
 use Rattle.rows.proofs.table.Table.from_state.Goals as goal
@@ -48,7 +48,4 @@ before-next-requires g c =
     omega (arith, along_low c.loop-next.invariant c.in-Some.number c.in-Some.is, count_keyed (λ a. a.from) self.chains.links.items (take 1024 self.arcs.now) self.keyed)
 
 pub loop-next-smaller : goal.loop-next-smaller
-loop-next-smaller g c =
-    let ks = keys c.args.self.now.chains.links.items in
-    let k = c.in-Some.number in
-    shorter _ c.loop-next.next k c.in-Some.is (subst (λ p. past p ≤ k) (sym c.before-next.ensures) (leads ks k (get_or ks k 0)).within)
+loop-next-smaller g c = shorter _ c.in-Some.number _ c.loop-next.next c.in-Some.is c.before-next.ensures
