@@ -23,6 +23,7 @@ from_place (suc n) i bs h =
 pub begins : (n : ℕ) (bs : List ℕ) → n ≤ length bs → bs ≡ places n 0 bs ++ drop n bs
 begins n bs h = from_place n 0 bs (omega arith) ∙ ap (λ (k : ℕ). places n 0 bs ++ drop k bs) (omega arith)
 
+-- part of a list of bytes is one too
 pub places_bytes : (n i : ℕ) (bs : List ℕ) → Bytes bs → Bytes (places n i bs)
 places_bytes zero i bs byte j = omega arith
 places_bytes (suc n) i bs byte zero = byte i

@@ -10,10 +10,12 @@ use Rattle.program.specs.Entries.{entry}
 use Rattle.program.specs.Weights.{labels, all_labels, added}
 use Rattle.tick_list.specs.Listings.{labels_of, figures_words, totals_words}
 
+-- the labels of records are those of their entries
 same_labels : (rs : List Record) → all_labels rs ≡ labels_of (map entry rs)
 same_labels [] = refl
 same_labels (r ∷ rs) = ap (λ ls. labels (entry r) ++ ls) (same_labels rs)
 
+-- the figures that are worked out from the records are those that their totals say
 pub totals_from_records : (rs : List Record) (n : ℕ) (w : Worst) (b : Best) (p : Ports) → n ≡ min (length (all_labels rs)) 18446744073709551615
     → record { amount = w.cycles; within = w.within } ≡ added worst worst.unit (all_labels rs)
     → record { amount = b.cycles; within = b.within } ≡ added best best.unit (all_labels rs)

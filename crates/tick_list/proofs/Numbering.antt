@@ -4,6 +4,7 @@ use Rattle.std.proofs.lemmas.List.{take_more}
 use Rattle.tick_list.specs.Listings.{numbered}
 
 module _ {A : Type 0} (line : ℕ → A → List ℕ) where
+  -- the lines of the items with one more are those of the items, and then its line
   numbered_more : (n m : ℕ) (xs : List A) (x : A) → n + length xs ≡ m → numbered line n (xs ++ x ∷ []) ≡ numbered line n xs ++ line m x
   numbered_more n m [] x is = append-nil (line n x) ∙ ap (λ (k : ℕ). line k x) (omega (arith, is))
   numbered_more n m (y ∷ xs) x is =
