@@ -2,6 +2,7 @@
 use Rattle.std.proofs.Common.{◌≡◌, ℕ, zero, suc, ◌+◌, ◌*◌, ◌/◌, ◌^◌, ◌<◌, ◌≤◌, List, [], ◌∷◌, ◌++◌, length, map, get_or, take, drop, refl, sym, ap, ◌∙◌, arith, length-append, length-drop, w32}
 use Rattle.std.specs.Int.{from_le_bytes}
 use Rattle.std.specs.List.{flat_map}
+use Rattle.std.proofs.lemmas.List.Folds.{flat_map-map}
 use Rattle.std.specs.Prelude.{All}
 use Rattle.std.specs.Simd.{first_chunks}
 use Rattle.std.proofs.lemmas.List.{nil_from_length, take-append-drop}
@@ -16,16 +17,10 @@ pub length_arcs : (arcs : List Arc) → length (flat_map arc_bytes arcs) ≡ 10 
 length_arcs [] = refl
 length_arcs (a ∷ arcs) = omega (arith, length-append (arc_bytes a) (flat_map arc_bytes arcs), length_arcs arcs)
 
-joined : List (List ℕ) → List ℕ
+abbrev joined : List (List ℕ) → List ℕ
 joined chunks = flat_map (λ c. c) chunks
 
-joined_map : (arcs : List Arc) → joined (map arc_bytes arcs) ≡ flat_map arc_bytes arcs
-unfolding joined
-joined_map [] = refl
-joined_map (a ∷ arcs) = ap (λ (l : List ℕ). arc_bytes a ++ l) (joined_map arcs)
-
 joined_chunks : (n : ℕ) (bs : List ℕ) → length bs ≡ 10 * n → joined (first_chunks 10 n bs) ≡ bs
-unfolding joined
 joined_chunks zero bs long = sym (nil_from_length bs (omega arith))
 joined_chunks (suc n) bs long =
     ap (λ (l : List ℕ). take 10 bs ++ l) (joined_chunks n (drop 10 bs) (omega (arith, length-drop 10 bs)))
@@ -34,7 +29,7 @@ joined_chunks (suc n) bs long =
 -- n arcs whose bytes are those of n tens of bytes, each ten an arc
 pub whole : (n : ℕ) (bs : List ℕ) (arcs : List Arc) → length bs ≡ 10 * n → map arc_bytes arcs ≡ first_chunks 10 (length bs / 10) bs → (length arcs ≡ n) × (bs ≡ flat_map arc_bytes arcs)
 whole n bs arcs long is =
-    let spelled = sym (joined_chunks (length bs / 10) bs (omega (arith, long))) ∙ ap joined (sym is) ∙ joined_map arcs in
+    let spelled = sym (joined_chunks (length bs / 10) bs (omega (arith, long))) ∙ ap joined (sym is) ∙ flat_map-map (λ c. c) arc_bytes arcs in
     (omega (arith, long, ap length spelled, length_arcs arcs), spelled)
 
 -- four bytes are those of a number

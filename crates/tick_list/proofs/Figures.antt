@@ -1,6 +1,7 @@
 -- The figures of records are those of their entries.
 use Rattle.std.proofs.Common.{◌≡◌, ℕ, min, List, [], ◌∷◌, ◌++◌, map, length, sym, refl, ap, ◌∙◌}
 use Rattle.std.proofs.lemmas.List.{length-map}
+use Rattle.std.proofs.lemmas.List.Folds.{flat_map-map}
 use Rattle.algebra.specs.declared.best.Best.{Best}
 use Rattle.algebra.specs.declared.ports.Ports.{Ports}
 use Rattle.algebra.specs.declared.worst.Worst.{Worst}
@@ -10,11 +11,6 @@ use Rattle.program.specs.Entries.{entry}
 use Rattle.program.specs.Weights.{labels, all_labels, added}
 use Rattle.tick_list.specs.Listings.{labels_of, figures_words, totals_words}
 
--- the labels of records are those of their entries
-same_labels : (rs : List Record) → all_labels rs ≡ labels_of (map entry rs)
-same_labels [] = refl
-same_labels (r ∷ rs) = ap (λ ls. labels (entry r) ++ ls) (same_labels rs)
-
 -- the figures that are worked out from the records are those that their totals say
 pub totals_from_records : (rs : List Record) (n : ℕ) (w : Worst) (b : Best) (p : Ports) → n ≡ min (length (all_labels rs)) 18446744073709551615
     → record { amount = w.cycles; within = w.within } ≡ added worst worst.unit (all_labels rs)
@@ -22,7 +18,7 @@ pub totals_from_records : (rs : List Record) (n : ℕ) (w : Worst) (b : Best) (p
     → p.bits ≡ added ports ports.unit (all_labels rs)
     → figures_words (length rs) n w.cycles b.cycles p.bits ≡ totals_words (map entry rs)
 totals_from_records rs n w b p n_is w_is b_is p_is =
-    let same = same_labels rs in
+    let same = sym (flat_map-map labels entry rs) in
     let es = map entry rs in
     let records : length rs ≡ length es = sym (length-map rs entry) in
     let counted : n ≡ min (length (labels_of es)) 18446744073709551615 = n_is ∙ ap (λ ls. min (length ls) 18446744073709551615) same in

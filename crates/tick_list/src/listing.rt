@@ -14,6 +14,7 @@ use program::refusal::Refusal;
 use program::weights::{count, weight};
 use std::alloc::{AllocError, Global};
 
+// Each of these writes on one text; a `Display` for each would be no plainer, as the arcs go below their record.
 fn put_arcs(text: &mut String, arcs: &[Arc]) -> Result<(), AllocError>
     ensures { OnOk result (Gains text.old text.new (numbered arc_line 0 arcs.now)) }
 {
