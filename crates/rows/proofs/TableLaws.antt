@@ -41,7 +41,7 @@ module _ (m : Model) (laws : Laws m) where
   pub and_nothing : (a : Gathered m) → together m a (nothing m) ≡ a
   and_nothing a = same_gathered ((coef_laws m laws).join_absent a.stay) ((coef_laws m laws).join_absent a.out) (or_zero_r a.states)
 
-  nothing_and : (a : Gathered m) → together m (nothing m) a ≡ a
+  pub nothing_and : (a : Gathered m) → together m (nothing m) a ≡ a
   nothing_and a = comm (nothing m) a ∙ and_nothing a
 
   crossed : (a b c d : Gathered m) → together m (together m a b) (together m c d) ≡ together m (together m a c) (together m b d)

@@ -1,5 +1,5 @@
 -- One tick more of a walk.
-use Rattle.std.proofs.Common.{◌≡◌, ℕ, ◌+◌, ◌<◌, ◌≤◌, false, ◌≢◌, List, [], ◌∷◌, ◌++◌, length, get_or, take, drop, set, None, Option, sym, ap, ◌∙◌, add-one, arith}
+use Rattle.std.proofs.Common.{◌≡◌, ℕ, ◌+◌, ◌<◌, ◌≤◌, false, ◌≢◌, List, [], ◌∷◌, ◌++◌, length, get_or, take, drop, set, None, Option, sym, ap, ◌∙◌, subst, add-one, arith}
 use Rattle.std.proofs.Math.Seq.{get_or-append_seam}
 use Rattle.std.proofs.lemmas.List.{get_or_append_left, length-set, length-map, map-set, get_or-set_same, get_or-set_other, take-set-le, drop-set-lt}
 use Rattle.std.specs.Option.{option_map}
@@ -10,14 +10,8 @@ use Rattle.rows.specs.Pieces.{meanings}
 use Rattle.rows.specs.Repeats.{NoRepeat}
 use Rattle.rows.specs.Rules.Rule.{Rule, at, rows, situation}
 use Rattle.rows.specs.Search.{noted}
+use Rattle.rows.specs.Walked.{Walked}
 use Rattle.rows.proofs.Ranges.{up_to}
-
--- n ticks of a rule are noted, and s is the situation at tick n
-pub record Walked {m : Model} (rule : Rule m) (n : ℕ) (s : Situation) (situations : List Situation) (cells : List (Coef m)) : Type 0 where
-  pub here : s ≡ at rule n
-  pub seen : (k : ℕ) → 0 ≤ k → k < n → get_or situations k (situation 0 0 0 false false) ≡ at rule k
-  pub fresh : NoRepeat (at rule) n
-  pub kept : (k : ℕ) → 0 ≤ k → k < n → noted m cells k ≡ rows rule k
 
 module _ {m : Model} (rule : Rule m) (n : ℕ) (s next : Situation) (situations : List Situation) (cells more : List (Coef m)) where
   pub walked_more : Walked rule n s situations cells → n ≡ length situations → ((k : ℕ) → k < n → get_or situations k (situation 0 0 0 false false) ≡ s → ⊥) → next ≡ rule.next s → noted m more n ≡ (rule.pause s, rule.exit s) → ((k : ℕ) → k < n → noted m more k ≡ noted m cells k) → Walked rule (n + 1) next (situations ++ s ∷ []) more
@@ -35,6 +29,10 @@ module _ {m : Model} (rule : Rule m) (n : ℕ) (s next : Situation) (situations 
         (λ k low less. before k less ∙ w.kept k low less)
         (now ∙ ap (λ t. (rule.pause t, rule.exit t)) w.here);
   }
+
+-- as many ticks, in other words
+pub walked_at : {m : Model} {rule : Rule m} {n k : ℕ} {s : Situation} {situations : List Situation} {cells : List (Coef m)} → n ≡ k → Walked rule n s situations cells → Walked rule k s situations cells
+walked_at {m} {rule} {n} {k} {s} {situations} {cells} e w = subst (λ (i : ℕ). Walked rule i s situations cells) e w
 
 -- what the cells hold once tick n is noted
 module _ {V C : Type 0} (f : V → C) (cells : List (Option V)) (n : ℕ) (p e : Option V) (room : 4096 ≤ length cells) (few : n < 1024) where

@@ -10,3 +10,4 @@ pub mod Unrolled
 pub mod Outcomes
 pub mod Chains
 pub mod Situations
+pub mod Walked

@@ -26,8 +26,9 @@ pub type Room<'a, V> = Read<'a, V, 4096>;
 pub type Kept<'a, V> = Read<'a, V, 2048>;
 
 impl<'a, V: Algebra> Cells<'a, V> {
-    // Sets the first 4,096 to absent.
+    // Sets the first 4,096 to absent. As everywhere, `same` says that the caller's own slice is written, and no other.
     pub fn wipe(&mut self)
+        ensures same { self.new.lent.ghost_name ≡ self.old.lent.ghost_name }
         ensures blank { (j : ℕ) → j < 4096 → slice_index_or self.new.lent.now j absent ≡ absent }
         ensures past { SamePast self.old.lent.now self.new.lent.now }
     {
@@ -51,7 +52,8 @@ impl<'a, V: Algebra> Cells<'a, V> {
     // Notes pause and exit at tick n in the working cells.
     pub fn note(&mut self, n: usize, pause: Option<V>, exit: Option<V>)
         requires { n < 1024 }
-        ensures { self.new.lent.now ≡ slice_set (slice_set self.old.lent.now (2048 + n) pause) (3072 + n) exit }
+        ensures same { self.new.lent.ghost_name ≡ self.old.lent.ghost_name }
+        ensures noted { self.new.lent.now ≡ slice_set (slice_set self.old.lent.now (2048 + n) pause) (3072 + n) exit }
     {
         self.lent[2048 + n] = pause;
         self.lent[3072 + n] = exit;

@@ -1,14 +1,14 @@
 // Numbers from 0 on, linked in chains by a small key: from its newest number a chain goes down. What has the numbers lies
 // beside, since a table's arcs are lent and would be copied; an invariant of the owner ties the two.
-ghost use Rattle.std.specs.Prelude.{◌≡◌, ◌<◌, [], ◌∷◌, ◌++◌, length, slice_index};
+ghost use Rattle.std.specs.Prelude.{◌≡◌, ◌<◌, ◌≤◌, [], ◌∷◌, ◌++◌, length, slice_index};
 ghost use Rattle.rows.specs.Chains.{keys, newest, Heads, Links};
 
 use crate::link::Link;
 use arrayvec::ArrayVec;
 
 #[derive(Drop)]
-pub struct Chains {
-    pub links: ArrayVec<Link, 1024>,
+pub struct Chains<const N: usize> {
+    pub links: ArrayVec<Link, N>,
     // the newest number of each chain; a map would need the heap, which a rack does not have
     heads: [Option<u16>; 256],
     ghost heads_long: { length heads ≡ 256 },
@@ -16,8 +16,8 @@ pub struct Chains {
     ghost linked: { Links links.items },
 }
 
-impl Chains {
-    pub fn new() -> Chains
+impl<const N: usize> Chains<N> {
+    pub fn new() -> Chains<N>
         ensures { result.links.items ≡ [] }
     {
         Chains {
@@ -43,7 +43,7 @@ impl Chains {
 
     // The next number gets the key.
     pub fn push(&mut self, key: u8)
-        requires { length self.old.links.items < 1024 }
+        requires { (length self.old.links.items < N) × (N ≤ 1024) }
         ensures { keys self.new.links.items ≡ keys self.old.links.items ++ key ∷ [] }
     {
         let chain = key as usize;

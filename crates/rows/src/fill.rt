@@ -10,6 +10,7 @@ impl<'a, V: Algebra> Cells<'a, V> {
     // Writes one row of a shelf: the working cells up to the size, and absent past it.
     fn fill_row(&mut self, at: usize, from: usize, size: usize)
         requires within { (at + 64 ≤ 2048) × (2048 ≤ from) × (from + 64 ≤ 4096) × (size ≤ 64) }
+        ensures same { self.new.lent.ghost_name ≡ self.old.lent.ghost_name }
         ensures len { length self.new.lent.now ≡ length self.old.lent.now }
         ensures row { (k : ℕ) → k < 64 → slice_index_or self.new.lent.now (at + k) absent ≡ kept_at self.old.lent.now from size k }
         ensures others { (j : ℕ) → (j < at) ⊎ (at + 64 ≤ j) → slice_index_or self.new.lent.now j absent ≡ slice_index_or self.old.lent.now j absent }
@@ -20,7 +21,8 @@ impl<'a, V: Algebra> Cells<'a, V> {
 
     // Fills a shelf with the noted rows up to the size, and with absent past it.
     pub fn fill(&mut self, place: Place, size: usize)
-        ensures { Filled self.old.lent.now self.new.lent.now place.shelf size }
+        ensures same { self.new.lent.ghost_name ≡ self.old.lent.ghost_name }
+        ensures filled { Filled self.old.lent.now self.new.lent.now place.shelf size }
     {
         let size = size.min(64);
         let pauses = 128 * place.shelf;

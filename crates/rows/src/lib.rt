@@ -9,6 +9,7 @@ pub mod fill;
 pub mod fork;
 pub mod least;
 pub mod link;
+pub mod linked;
 pub mod outcome;
 pub mod phases;
 pub mod piece;

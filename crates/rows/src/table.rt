@@ -1,12 +1,12 @@
-// Table: the set of states current at the tick. The arcs of each are gathered along their chain.
-ghost use Rattle.std.specs.Prelude.{◌≡◌, ◌==◌, map, take};
-ghost use Rattle.rows.specs.Chains.{keys};
+// Table: the set of states current at the tick. The arcs that begin in it are gathered.
+ghost use Rattle.std.specs.Prelude.{◌≡◌, false};
+ghost use Rattle.std.specs.Option.{option_map};
 ghost use Rattle.rows.specs.Gathered.{nothing, one, together, gathered, held};
 ghost use Rattle.rows.specs.Sets.{has as has_member};
+ghost use Rattle.rows.specs.Rules.Rule.{situation as a_situation};
 ghost use Rattle.rows.specs.Rules.Table.{table as the_table};
 
 use crate::cells::Kept;
-use crate::chains::Chains;
 use crate::rule::{RowRule, Tick};
 use crate::sets::{has, with};
 use crate::situation::Situation;
@@ -14,24 +14,22 @@ use algebra::algebra::Algebra;
 use algebra::arc::Arc;
 use algebra::coefficient::join;
 
-#[derive(Drop)]
+// All arcs are gone through for each situation; `Linked` follows those of its states alone.
+#[derive(Clone, Copy)]
 pub struct Table<'a> {
     pub arcs: &'a [Arc],
-    // the first 1,024 arcs by the state that they begin at, which are all that a rack's table has
-    chains: Chains,
-    ghost keyed: { keys chains.links.items ≡ map (λ a. a.from) (take 1024 arcs.now) },
 }
 
 // Arcs joined: those that stay, those that lead out, and the states that the first lead to.
 #[derive(Clone, Copy)]
-struct Gathered<V> {
-    stay: Option<V>,
-    out: Option<V>,
-    states: u64,
+pub(crate) struct Gathered<V> {
+    pub(crate) stay: Option<V>,
+    pub(crate) out: Option<V>,
+    pub(crate) states: u64,
 }
 
 impl<V: Algebra> Gathered<V> {
-    fn nothing() -> Gathered<V>
+    pub(crate) fn nothing() -> Gathered<V>
         ensures { held V.model V.means result ≡ nothing V.model }
     {
         Gathered {
@@ -41,7 +39,7 @@ impl<V: Algebra> Gathered<V> {
         }
     }
 
-    fn with(self, arc: Arc) -> Gathered<V>
+    pub(crate) fn with(self, arc: Arc) -> Gathered<V>
         ensures { held V.model V.means result ≡ together V.model (held V.model V.means self) (one V.model arc) }
     {
         let weight = Some(V::weigh(arc.label));
@@ -58,6 +56,32 @@ impl<V: Algebra> Gathered<V> {
             }
         }
     }
+
+    // With those of the arcs that begin in the set.
+    pub(crate) fn with_all(self, set: u64, arcs: &[Arc]) -> Gathered<V>
+        ensures { held V.model V.means result ≡ together V.model (held V.model V.means self) (gathered V.model (λ a. has_member set a.from) arcs.now) }
+    {
+        arcs.iter()
+            .filter(|arc| begins(set, **arc))
+            .fold(self, |sofar, arc| sofar.with(*arc))
+    }
+
+    // What the arcs of a situation's set come to at its tick.
+    pub(crate) fn tick(self) -> Tick<V>
+        ensures pause { option_map V.means result.pause ≡ (held V.model V.means self).stay }
+        ensures exit { option_map V.means result.exit ≡ (held V.model V.means self).out }
+        ensures next { result.next ≡ a_situation 0 0 (held V.model V.means self).states false false }
+    {
+        let next = Situation {
+            set: self.states,
+            ..Situation::default()
+        };
+        Tick {
+            pause: self.stay,
+            exit: self.out,
+            next,
+        }
+    }
 }
 
 // Does the arc begin at a member of the set?
@@ -71,48 +95,14 @@ impl<'a> Table<'a> {
     pub fn new(arcs: &'a [Arc]) -> Table<'a>
         ensures { result.arcs.now ≡ arcs.now }
     {
-        let mut chains = Chains::new();
-        for arc in &arcs[..arcs.len().min(1024)] {
-            chains.push(arc.from);
-        }
-        Table { arcs, chains }
-    }
-
-    // With the arcs from a state, of those in chains.
-    fn from_state<V: Algebra>(&self, sofar: Gathered<V>, state: u8) -> Gathered<V>
-        ensures { held V.model V.means result ≡ together V.model (held V.model V.means sofar) (gathered V.model (λ a. a.from == state) (take 1024 self.now.arcs.now)) }
-    {
-        let mut all = sofar;
-        // a `while`, as in `Situations::find`: what it keeps from link to link is another fact here
-        let mut next = self.chains.head(state);
-        while let Some(number) = next {
-            let k = number as usize;
-            all = all.with(self.arcs[k]);
-            next = self.chains.before(k);
-        }
-        all
-    }
-
-    // The arcs of the set's states, of those in chains.
-    fn chained<V: Algebra>(&self, set: u64) -> Gathered<V>
-        ensures { held V.model V.means result ≡ gathered V.model (λ a. has_member set a.from) (take 1024 self.now.arcs.now) }
-    {
-        // no state is past the highest of the set
-        let states = 64 - set.leading_zeros() as u8;
-        (0..states).filter(|&state| has(set, state as usize)).fold(
-            Gathered::nothing(),
-            |sofar, state| self.from_state(sofar, state),
-        )
+        Table { arcs }
     }
 
     // All arcs of the set's states.
     fn follow<V: Algebra>(&self, set: u64) -> Gathered<V>
         ensures { held V.model V.means result ≡ gathered V.model (λ a. has_member set a.from) self.now.arcs.now }
     {
-        let past = &self.arcs[self.arcs.len().min(1024)..];
-        past.iter()
-            .filter(|arc| begins(set, **arc))
-            .fold(self.chained(set), |sofar, arc| sofar.with(*arc))
+        Gathered::nothing().with_all(set, self.arcs)
     }
 }
 
@@ -129,15 +119,6 @@ impl RowRule for Table<'_> {
     }
 
     fn look<V: Algebra>(&self, kept: &Kept<V>, s: Situation) -> Tick<V> {
-        let arcs = self.follow(s.set);
-        let next = Situation {
-            set: arcs.states,
-            ..Situation::default()
-        };
-        Tick {
-            pause: arcs.stay,
-            exit: arcs.out,
-            next,
-        }
+        self.follow(s.set).tick()
     }
 }

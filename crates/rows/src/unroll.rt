@@ -19,6 +19,7 @@ pub fn unroll<R: RowRule, V: Algebra>(
     cells: &mut Cells<V>,
     place: Place,
 ) -> Result<Unrolled, Unkept>
+    ensures same { cells.new.lent.ghost_name ≡ cells.old.lent.ghost_name }
     ensures only { OnlyShelf place.shelf cells.old.lent.now cells.new.lent.now }
     ensures cases { let over = R.RowRule.works rule.now V.Algebra.model (on_shelves V.Algebra.means cells.old) in MatchResult result (λ u. Unrolls over u.reply place.shelf u.shape.transient u.shape.period (on_shelves V.Algebra.means cells.new)) (λ no. Refused over no × (take 2048 cells.new.lent.now ≡ take 2048 cells.old.lent.now)) }
 {

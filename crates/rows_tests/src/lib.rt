@@ -3,6 +3,7 @@
 
 #[cfg(test)]
 mod bench;
+pub mod lent;
 #[cfg(test)]
 mod limits;
 #[cfg(test)]

@@ -1,4 +1,8 @@
 // The calls of a rack, as values.
+ghost use Rattle.std.specs.Prelude.{◌≡◌};
+ghost use Rattle.shelves.specs.Calls.{node as node_call, pause as pause_call, table as table_call, pair as pair_call, loop as loop_call, clear as clear_call, report as report_call};
+ghost use Rattle.shelves.specs.Held.{call_of};
+
 use algebra::arc::Arc;
 use algebra::label::Label;
 
@@ -39,4 +43,54 @@ pub enum Call<'a> {
     Report {
         shelf: u8,
     },
+}
+
+// A caller may write a call as its case, or make it by its name.
+impl<'a> Call<'a> {
+    pub fn node(shelf: u8, label: Label) -> Call<'a>
+        ensures { call_of result ≡ node_call shelf label }
+    {
+        Call::Node { shelf, label }
+    }
+
+    pub fn pause(shelf: u8, label: Label) -> Call<'a>
+        ensures { call_of result ≡ pause_call shelf label }
+    {
+        Call::Pause { shelf, label }
+    }
+
+    pub fn table(shelf: u8, arcs: &'a [Arc]) -> Call<'a>
+        ensures { call_of result ≡ table_call shelf arcs.now }
+    {
+        Call::Table { shelf, arcs }
+    }
+
+    pub fn pair(kind: Pairing, first: u8, second: u8) -> Call<'a>
+        ensures { call_of result ≡ pair_call kind first second }
+    {
+        Call::Pair {
+            kind,
+            first,
+            second,
+        }
+    }
+
+    // The call loop, whose name is a word of the language.
+    pub fn repeat(shelf: u8) -> Call<'a>
+        ensures { call_of result ≡ loop_call shelf }
+    {
+        Call::Loop { shelf }
+    }
+
+    pub fn clear(shelf: u8) -> Call<'a>
+        ensures { call_of result ≡ clear_call shelf }
+    {
+        Call::Clear { shelf }
+    }
+
+    pub fn report(shelf: u8) -> Call<'a>
+        ensures { call_of result ≡ report_call shelf }
+    {
+        Call::Report { shelf }
+    }
 }

@@ -21,11 +21,11 @@ use algebra::arc::Arc;
 use rows::abort::Abort;
 use rows::choice::Choice;
 use rows::fork::Fork;
+use rows::linked::Linked;
 use rows::piece::Piece;
 use rows::place::Place;
 use rows::repeat::Repeat;
 use rows::sequence::Sequence;
-use rows::table::Table;
 use runs::step::Step;
 
 // The piece on a shelf.
@@ -115,7 +115,7 @@ pub(crate) fn put_table<V: Algebra>(
         first: core.arcs.len(),
         count: arcs.len(),
     };
-    let reply = build(core, &Table::new(arcs), place, step)?;
+    let reply = build(core, &Linked::new(arcs), place, step)?;
     core.arcs.try_extend_from_slice(arcs).unwrap();
     Ok(reply)
 }

@@ -22,4 +22,4 @@ pub mod reply;
 pub mod report;
 pub mod shelf;
 pub mod tables;
-mod telling;
+pub mod telling;

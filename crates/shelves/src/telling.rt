@@ -1,16 +1,16 @@
 // Telling of a shelf: the figure of its rows, and the first tick that reaches it.
-ghost use Rattle.std.specs.Prelude.{◌≡◌, true, Some as present};
+ghost use Rattle.std.specs.Prelude.{◌≡◌, ◌≤◌, true, length, take, Some as present};
 ghost use Rattle.std.specs.Option.{option_map};
 ghost use Rattle.algebra.specs.Coefficients.{join as joined};
 ghost use Rattle.rows.specs.Phases.{IsPhase};
-ghost use Rattle.rows.specs.Pieces.{pause_at, exit_at};
+ghost use Rattle.rows.specs.Pieces.{rows_of, meanings, pause_at, exit_at};
 ghost use Rattle.shelves.specs.Effects.{figure_of, FirstTick, Reports};
 ghost use Rattle.shelves.specs.Told.{given, report_of};
 
 use crate::report::Report;
 use algebra::algebra::Algebra;
 use algebra::coefficient::{equal, join};
-use rows::cells::Kept;
+use rows::cells::{Kept, Read};
 use rows::piece::{Piece, Row};
 
 // A piece with the cells that keep it.
@@ -66,4 +66,15 @@ impl<'a, V: Algebra> Shown<'a, V> {
             period: self.piece.shape.period,
         }
     }
+}
+
+// The report of a piece on the shelves, which are the first 2,048 cells.
+pub fn report<V: Algebra>(cells: &[Option<V>], piece: Piece) -> Report<V>
+    requires { 2048 ≤ length cells.now }
+    ensures { Reports V.model (rows_of V.model (meanings V.means (take 2048 cells.now)) piece) (report_of V.model V.means result) }
+{
+    let kept = Read {
+        cells: &cells[..2048],
+    };
+    Shown { piece, kept }.report()
 }

@@ -1,6 +1,8 @@
 -- Numbered items: one more comes last, with the number of those before it.
-use Rattle.std.proofs.Common.{◌≡◌, ℕ, ◌+◌, ◌<◌, List, [], ◌∷◌, ◌++◌, length, get_or, take, sym, ap, ◌∙◌, append_assoc, append-nil, arith, length-take}
+use Rattle.std.proofs.Common.{◌≡◌, ℕ, ◌+◌, ◌<◌, List, [], ◌∷◌, ◌++◌, Option, length, get_or, take, sym, ap, ◌∙◌, append_assoc, append-nil, arith, length-take, subst}
+use Rattle.std.proofs.KnownBytes.{Appends-trans}
 use Rattle.std.proofs.lemmas.List.{take_more}
+use Rattle.std.specs.Io.KnownBytes.{Appends}
 use Rattle.tick_list.specs.Listings.{numbered}
 
 module _ {A : Type 0} (line : ℕ → A → List ℕ) where
@@ -11,10 +13,9 @@ module _ {A : Type 0} (line : ℕ → A → List ℕ) where
       ap (λ (l : List ℕ). line n y ++ l) (numbered_more (n + 1) m xs x (omega (arith, is)))
       ∙ sym (append_assoc (line n y) (numbered line (n + 1) xs) (line m x))
 
-  -- a text with the lines of the first i items, and then with one more
-  pub written_more : (old text more : List ℕ) (xs : List A) (i : ℕ) (d : A) → i < length xs → text ≡ old ++ numbered line 0 (take i xs) → more ≡ text ++ line i (get_or xs i d) → more ≡ old ++ numbered line 0 (take (i + 1) xs)
-  written_more old text more xs i d h so on =
+  -- a writer that got the lines of the first i items, and then one more
+  pub written_more : (old out more : Option (List ℕ)) (xs : List A) (i : ℕ) (d : A) → i < length xs → Appends old out (numbered line 0 (take i xs)) → Appends out more (line i (get_or xs i d)) → Appends old more (numbered line 0 (take (i + 1) xs))
+  written_more old out more xs i d h so on =
       let last : numbered line 0 (take (i + 1) xs) ≡ numbered line 0 (take i xs) ++ line i (get_or xs i d) =
       ap (numbered line 0) (take_more xs i d h) ∙ numbered_more 0 i (take i xs) (get_or xs i d) (omega (arith, length-take i xs)) in
-      on ∙ ap (λ (l : List ℕ). l ++ line i (get_or xs i d)) so ∙ append_assoc old (numbered line 0 (take i xs)) (line i (get_or xs i d))
-      ∙ ap (λ (l : List ℕ). old ++ l) (sym last)
+      subst (Appends old more) (sym last) (Appends-trans old out more _ _ so on)

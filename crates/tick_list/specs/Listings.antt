@@ -1,6 +1,6 @@
 -- The lines of a whole program file.
-use Rattle.std.specs.Prelude.{◌≡◌, ℕ, ◌+◌, min, List, [], ◌∷◌, ◌++◌, length, Some, None, Option, codes, decimal, String, string_bytes}
-use Rattle.std.specs.declared.alloc.Global.{Global}
+use Rattle.std.specs.Prelude.{◌≡◌, ℕ, ◌+◌, min, List, [], ◌∷◌, ◌++◌, length, Some, None, Option, codes, decimal}
+use Rattle.std.specs.Io.KnownBytes.{Appends}
 use Rattle.std.specs.List.{flat_map}
 use Rattle.algebra.specs.declared.arc.Arc.{Arc}
 use Rattle.algebra.specs.declared.label.Label.{Label}
@@ -13,10 +13,6 @@ use Rattle.program.specs.Format.{arcs_of}
 use Rattle.program.specs.Refusals.{number}
 use Rattle.program.specs.Weights.{labels, added}
 use Rattle.tick_list.specs.Lines.{words, words_of_arc}
-
--- the new text is the old one with these bytes behind it
-abbrev pub Gains : String Global → String Global → List ℕ → Type 0
-Gains old new more = string_bytes new ≡ string_bytes old ++ more
 
 -- what is written of each item, with its number, counted from n
 abbrev pub numbered : {A : Type 0} → (ℕ → A → List ℕ) → ℕ → List A → List ℕ
@@ -70,3 +66,9 @@ pub record ListingOf (bytes text : List ℕ) : Type 0 where
   pub refusal : Option Refusal
   pub holds : Holds bytes entries refusal
   pub says : text ≡ numbered record_lines 0 entries ++ ending_words entries refusal
+
+-- what a writer holds, where that is known, has grown by the text of the bytes
+pub record Lists (bytes : List ℕ) (old new : Option (List ℕ)) : Type 0 where
+  pub text : List ℕ
+  pub listing : ListingOf bytes text
+  pub written : Appends old new text

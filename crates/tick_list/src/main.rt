@@ -13,6 +13,5 @@ use std::io::Read;
 fn main(rt: HostRuntime) -> io::Result<()> {
     let mut bytes = Vec::new(rt.alloc());
     rt.stdin().read_to_end(&mut bytes)?;
-    let text = listing(rt.alloc(), bytes.as_slice())?;
-    print!(rt; "{text}")
+    listing(rt.alloc(), &bytes, &mut io::writer(&rt))
 }

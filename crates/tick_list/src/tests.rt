@@ -7,8 +7,9 @@ use std::test::Fail;
 const LOOP: [u8; 5] = [5, 0, 6, 0, 2];
 
 fn lists(rt: &impl Abort, heap: Global, bytes: &[u8], lines: &str) -> Result<(), Fail> {
-    let text = listing(heap, bytes)?;
-    assert_eq!(rt; text.as_str(), lines);
+    let mut text = Vec::new(heap);
+    listing(heap, bytes, &mut text)?;
+    assert_eq!(rt; text.as_slice(), lines.as_bytes());
     Ok(())
 }
 

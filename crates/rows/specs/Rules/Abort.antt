@@ -1,4 +1,5 @@
--- Abort, H over A: both phases and a mark L, set at tick 0, later where A.p was present at the tick before.
+-- Abort, H over A: the phase of each, and a mark L: at tick 0 it is set, and at each later tick it says whether A.p was present
+-- one tick ago.
 use Rattle.std.specs.Prelude.{true, false, is_some}
 use Rattle.algebra.specs.Model.{Model}
 use Rattle.algebra.specs.Coefficients.{join, add, mark}

@@ -1,4 +1,4 @@
--- Choice: both phases. Join tick by tick.
+-- Choice of A and B: the phase of each. Pause is A.p ⊕ B.p, exit A.e ⊕ B.e.
 use Rattle.std.specs.Prelude.{false}
 use Rattle.algebra.specs.Model.{Model}
 use Rattle.algebra.specs.Coefficients.{join}

@@ -1,4 +1,4 @@
--- Fork: both phases, and for each side a mark W, set once an exit was present at an earlier tick.
+-- Fork of A and B: the phase of each, and for each a mark W that says whether its exit has been present before this tick.
 use Rattle.std.specs.Prelude.{false, ◌||◌, is_some}
 use Rattle.algebra.specs.Model.{Model}
 use Rattle.algebra.specs.Coefficients.{join, add, mark}

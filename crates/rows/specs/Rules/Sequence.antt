@@ -1,4 +1,4 @@
--- Sequence: A's phase and a set M of B's phases, first empty.
+-- Sequence of A and B: the phase of A, and the set M of phases in which a B begun earlier may be, empty at first.
 use Rattle.std.specs.Prelude.{ℕ, false, cond, ◌&&◌, is_some}
 use Rattle.algebra.specs.Model.{Model}
 use Rattle.algebra.specs.Coefficients.{join, add}
@@ -6,7 +6,8 @@ use Rattle.rows.specs.Pieces.{Rows, size, next_phase, moved}
 use Rattle.rows.specs.Sets.{has, with_member, joins}
 use Rattle.rows.specs.Rules.Rule.{Rule, situation}
 
--- the next M holds the phase after each member with B.p present, and the phase after 0 if A.e and B.p at 0 are present
+-- M moves on: a member whose B.p is present goes to the phase after it, the others drop out, and where A.e meets a B.p at 0,
+-- both present, the phase after 0 joins in
 abbrev pub follow_on : {m : Model} (A B : Rows m) → (phase set : ℕ) → ℕ
 follow_on A B phase set = cond (is_some (A.e phase) && is_some (B.p 0)) (with_member (moved B set) (next_phase B 0)) (moved B set)
 

@@ -1,4 +1,4 @@
--- Table: the situation is the set of states current at the tick, first {0}.
+-- Table: the situation is a set of states, {0} at first.
 use Rattle.std.specs.Prelude.{ℕ, Bool, true, false, cond, not, ◌&&◌, List, [], ◌∷◌, Some, None, nat_lt}
 use Rattle.algebra.specs.declared.arc.Arc.{Arc}
 use Rattle.algebra.specs.Model.{Model}
@@ -25,7 +25,8 @@ abbrev pub reached : (set : ℕ) → List Arc → ℕ
 reached set [] = 0
 reached set (arc ∷ arcs) = cond (current set true arc) (with_member (reached set arcs) arc.to) (reached set arcs)
 
--- pause joins the weights of the set's arcs that lead to a state, exit of those that lead out
+-- of the arcs that begin in the set, pause joins the weights of those that lead to a state, exit of those that lead out; the
+-- states led to are the next set
 abbrev pub table : (m : Model) (arcs : List Arc) → Rule m
 table m arcs = record {
   first = situation 0 0 1 false false;

@@ -10,6 +10,7 @@ pub returns-in_err-turn : goal.returns-in_err-turn
 returns-in_err-turn g c =
     let kept = c.walk.ensures.below in
     record {
+      same = c.walk.ensures.same;
       only = record { others = λ j low out. agree_below _ _ 2048 kept j low; past = c.walk.ensures.past };
       cases = search (rules, kept);
     }
@@ -25,6 +26,7 @@ returns-then-transient-period-gt64 g c =
     let earlier = c.in_ok-turn.turn.earlier in
     let order = c.in_ok-turn.turn.order in
     record {
+      same = c.walk.ensures.same;
       only = record { others = λ j low out. agree_below _ _ 2048 kept j low; past = c.walk.ensures.past };
       cases = (
         record {
@@ -56,11 +58,12 @@ returns g c =
     let shelf = c.args.place.shelf in
     let t = c.least_transient-transient.result in
     let d = c.least_period-period.result in
-    let filled = c.fill.ensures in
+    let filled = c.fill.ensures.filled in
     let least = shape_of {m = m} rule (noted m (meanings f c.room-noted.result.cells.now)) earlier number d t order turn.0
     (λ k less. ap (λ xs. noted m (meanings f xs) k) c.room-noted.ensures ∙ turn.2 k less) c.least_period-period.ensures c.least_transient-transient.ensures in
     let few : t + d ≤ number = omega (arith, order) in
     record {
+      same = c.fill.ensures.same ∙ c.walk.ensures.same;
       only = record {
         others = λ j low out. filled.others j (apart shelf j out) ∙ agree_below _ _ 2048 kept j low;
         past = same_past after before 4096 filled.len (λ j far. filled.others j (inr (omega arith))) ∙ c.walk.ensures.past;

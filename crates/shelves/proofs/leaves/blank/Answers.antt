@@ -11,6 +11,6 @@ returns g c =
     let k = c.args.place.shelf in
     let f = g.V.Algebra.means in
     record {
-      blank = λ j of. means_below f after 2048 j (omega arith) ∙ means_at f after j ∙ ap (option_map f) (filled_blank cells after k c.fill.ensures j of);
-      only = fill_only cells cells after k 0 c.fill.ensures c.args.place.within refl refl;
+      blank = λ j of. means_below f after 2048 j (omega arith) ∙ means_at f after j ∙ ap (option_map f) (filled_blank cells after k c.fill.ensures.filled j of);
+      only = fill_only cells cells after k 0 c.fill.ensures.filled c.args.place.within refl refl;
     }

@@ -9,9 +9,9 @@ returns g c =
     let f = g.V.Algebra.means in
     let row = node_row m c.args.label in
     let cells = c.args.cells.now.lent.now in
-    let one = noting_more m f row cells 0 cells c.note.new.self.lent.now _ _ c.args.cells.now.room (omega arith) (noting_none m f row cells) c.note.ensures (λ i. (None, Some (c.weigh.ensures i))) in
-    let two = noting_more m f row cells 1 c.note.new.self.lent.now c.note-2.new.self.lent.now _ _ c.args.cells.now.room (omega arith) one c.note-2.ensures refl in
+    let one = noting_more m f row cells 0 cells c.note.new.self.lent.now _ _ c.args.cells.now.room (omega arith) (noting_none m f row cells) c.note.ensures.noted (λ i. (None, Some (c.weigh.ensures i))) in
+    let two = noting_more m f row cells 1 c.note.new.self.lent.now c.note-2.new.self.lent.now _ _ c.args.cells.now.room (omega arith) one c.note-2.ensures.noted refl in
     record {
-      keeps = noting_kept m f row cells 1 1 c.note-2.new.self.lent.now c.fill.new.self.lent.now c.args.place.shelf c.args.cells.now.room c.args.place.within (omega arith) two c.fill.ensures (node_shape m c.args.label);
-      only = fill_only cells c.note-2.new.self.lent.now c.fill.new.self.lent.now c.args.place.shelf 2 c.fill.ensures c.args.place.within two.below two.past;
+      keeps = noting_kept m f row cells 1 1 c.note-2.new.self.lent.now c.fill.new.self.lent.now c.args.place.shelf c.args.cells.now.room c.args.place.within (omega arith) two c.fill.ensures.filled (node_shape m c.args.label);
+      only = fill_only cells c.note-2.new.self.lent.now c.fill.new.self.lent.now c.args.place.shelf 2 c.fill.ensures.filled c.args.place.within two.below two.past;
     }

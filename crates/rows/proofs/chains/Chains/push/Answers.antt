@@ -6,7 +6,7 @@ use Rattle.rows.proofs.Chaining.{heads_more, links_more}
 use Rattle.rows.proofs.chains.Chains.push.Goals as goal
 
 pub invariant_of-self : goal.invariant_of-self
-invariant_of-self c =
+invariant_of-self g c =
     let self = c.args.self.now in
     let links = self.links.items in
     let x : Link = record { key = c.args.key; before = get_or self.heads c.args.key None } in

@@ -10,13 +10,13 @@ use Rattle.rows.specs.Sets.{has}
 use Rattle.rows.proofs.Folds.{fold_read, fold_passing}
 use Rattle.rows.proofs.TableLaws.{over_states, state_by_state}
 use Rattle.algebra.proofs.AlgebraLaws.{laws_of}
-use Rattle.rows.proofs.table.Table.chained.Goals as goal
+use Rattle.rows.proofs.linked.Linked.chained.Goals as goal
 
 pub returns : goal.returns
 returns g c =
     let m = g.V.Algebra.model in
     let set = c.args.set in
-    let xs = take 1024 c.args.self.now.arcs.now in
+    let xs = take 1024 c.args.self.now.table.arcs.now in
     let n = 64 - count_leading_zeros 64 set in
     let long = leading_length 64 set (search rules) in
     let most : long.0 ≡ n = omega (arith, long.1) in

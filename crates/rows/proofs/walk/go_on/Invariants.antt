@@ -1,7 +1,7 @@
-use Rattle.std.proofs.Common.{◌≡◌, length, take, drop}
+use Rattle.std.proofs.Common.{◌≡◌, ◌≤◌, length, take, drop}
 use Rattle.rows.specs.Pieces.{meanings}
-use Rattle.rows.proofs.Walking.{Walked}
-use Rattle.rows.proofs.walk.walk.Given as goal
+use Rattle.rows.specs.Walked.{Walked}
+use Rattle.rows.proofs.walk.go_on.Given as goal
 
 abbrev pub invariant-loop-n : goal.invariant-loop-n
 invariant-loop-n g l =
@@ -12,3 +12,5 @@ invariant-loop-n g l =
     × (take 2048 l.cells.lent.now ≡ take 2048 l.initial.cells.lent.now)
     × (drop 4096 l.cells.lent.now ≡ drop 4096 l.initial.cells.lent.now)
     × (length l.seen.noted.items ≡ l.n)
+    × (l.n ≤ g.row.N)
+    × (l.cells.lent.ghost_name ≡ l.initial.cells.lent.ghost_name)

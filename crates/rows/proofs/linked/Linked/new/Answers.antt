@@ -1,7 +1,7 @@
 use Rattle.std.proofs.Common.{map, take, ap, ◌∙◌}
 use Rattle.std.proofs.lemmas.List.{take_all}
 use Rattle.rows.proofs.TableLaws.{first_arcs}
-use Rattle.rows.proofs.table.Table.new.Goals as goal
+use Rattle.rows.proofs.linked.Linked.new.Goals as goal
 
 pub invariant_of-result : goal.invariant_of-result
 invariant_of-result c =
